@@ -3,7 +3,6 @@ use Rattle.std.specs.Prelude.{ℕ, zero, suc, ◌+◌, ◌-◌, ◌*◌, ◌%◌
 use Rattle.std.specs.List.{prefix_len}
 use Rattle.std.specs.Option.{unwrap_or}
 use Rattle.std.specs.Char.{is_ascii_alphabetic, digit_value}
-use Rattle.std.specs.Str.{continuation_len, lead_bits}
 
 -- a byte that goes on with a character (RFC 3629, section 3: 10xxxxxx)
 abbrev pub is_continuation : ℕ → Bool
@@ -11,19 +10,15 @@ is_continuation b = nat_le 128 b && nat_lt b 192
 
 -- how many bytes the character at the front takes
 abbrev pub character_len : List ℕ → ℕ
-character_len [] = 0
-character_len (b ∷ bs) = suc (prefix_len is_continuation bs)
+character_len bs = 1 + prefix_len is_continuation (drop 1 bs)
 
--- a number with the low six bits of each of n more bytes behind it
-abbrev pub continued : ℕ → ℕ → List ℕ → ℕ
-continued zero c bs = c
-continued (suc n) c [] = c
-continued (suc n) c (b ∷ bs) = continued n (c * 64 + b % 64) bs
-
--- the number of the character at the front (RFC 3629, section 3): its first byte says how many bytes go on
+-- the number of the character at the front (RFC 3629, section 3): the low bits of its first byte, and the low six bits of each that goes on
 abbrev pub first_number : List ℕ → ℕ
-first_number [] = 0
-first_number (b ∷ bs) = continued (continuation_len b) (lead_bits b) bs
+first_number bs = let b = slice_index bs 0 in
+    if nat_lt b 128 then b
+    else (if nat_lt b 224 then (b - 192) * 64 + slice_index bs 1 % 64
+    else (if nat_lt b 240 then ((b - 224) * 64 + slice_index bs 1 % 64) * 64 + slice_index bs 2 % 64
+    else (((b - 240) * 64 + slice_index bs 1 % 64) * 64 + slice_index bs 2 % 64) * 64 + slice_index bs 3 % 64))
 
 -- the number is a character's: at most 16#10FFFF, and no surrogate
 abbrev pub is_scalar : ℕ → Bool
@@ -33,10 +28,14 @@ is_scalar n = nat_lt n 0xD800 || (nat_le 0xE000 n && nat_le n 0x10FFFF)
 abbrev pub is_digit : ℕ → ℕ → Bool
 is_digit base b = nat_lt (digit_value b) base
 
--- the number that digits go on with, where `_` (95) is no digit
+-- a number with one more digit behind it, where `_` (95) is no digit
+abbrev pub with_digit : ℕ → ℕ → ℕ → ℕ
+with_digit base n b = if b == 95 then n else n * base + digit_value b
+
+-- a number with more digits behind it
 abbrev pub number_after : ℕ → ℕ → List ℕ → ℕ
 number_after base n [] = n
-number_after base n (b ∷ bs) = number_after base (if b == 95 then n else n * base + digit_value b) bs
+number_after base n (b ∷ bs) = number_after base (with_digit base n b) bs
 
 -- the number of digits of a base
 abbrev pub number : ℕ → List ℕ → ℕ
@@ -65,11 +64,11 @@ control_len bs = if is_ascii_alphabetic (slice_index bs 0) then Some 2 else None
 -- The bytes of the escape after a backslash, if one stands there: octal digits, `x` (120) and hexadecimal digits, `^` (94) and a letter,
 -- or any other character.
 abbrev pub escape_len : List ℕ → Option ℕ
-escape_len [] = None
-escape_len (b ∷ bs) = if is_digit 8 b then Some (octal_len (b ∷ bs))
-    else (if b == 120 then hexadecimal_len bs
-    else (if b == 94 then control_len bs
-    else Some (character_len (b ∷ bs))))
+escape_len bs = if length bs == 0 then None
+    else (if is_digit 8 (slice_index bs 0) then Some (octal_len bs)
+    else (if slice_index bs 0 == 120 then hexadecimal_len (drop 1 bs)
+    else (if slice_index bs 0 == 94 then control_len (drop 1 bs)
+    else Some (character_len bs))))
 
 -- the number of a character that stands for a control character, a space or delete, and of any other its own
 abbrev pub named_number : List ℕ → ℕ
@@ -92,11 +91,10 @@ hexadecimal_number bs = if slice_index bs 0 == 123 then number 16 (take (prefix_
 
 -- The number of the character that an escape stands for. After `^` it is the letter's number in the alphabet.
 abbrev pub escape_number : List ℕ → ℕ
-escape_number [] = 0
-escape_number (b ∷ bs) = if is_digit 8 b then number 8 (take (octal_len (b ∷ bs)) (b ∷ bs))
-    else (if b == 120 then hexadecimal_number bs
-    else (if b == 94 then digit_value (slice_index bs 0) - 9
-    else named_number (b ∷ bs)))
+escape_number bs = if is_digit 8 (slice_index bs 0) then number 8 (take (octal_len bs) bs)
+    else (if slice_index bs 0 == 120 then hexadecimal_number (drop 1 bs)
+    else (if slice_index bs 0 == 94 then digit_value (slice_index bs 1) - 9
+    else named_number bs))
 
 -- ---- What a token stands for
 
@@ -126,11 +124,11 @@ character_number bs = if slice_index bs 1 == 92 then escape_number (drop 2 bs) e
 
 -- the base of an integer's digits: the number before `#` (35), or ten
 abbrev pub integer_base : List ℕ → ℕ
-integer_base bs = let n = prefix_len (is_digit 10) bs in if slice_index bs n == 35 then number 10 (take n bs) else 10
+integer_base bs = let n = 1 + prefix_len (is_digit 10) (drop 1 bs) in if slice_index bs n == 35 then number 10 (take n bs) else 10
 
 -- an integer's digits: those behind `#`, or all
 abbrev pub integer_digits : List ℕ → List ℕ
-integer_digits bs = let n = prefix_len (is_digit 10) bs in if slice_index bs n == 35 then drop (n + 1) bs else bs
+integer_digits bs = let n = 1 + prefix_len (is_digit 10) (drop 1 bs) in if slice_index bs n == 35 then drop (n + 1) bs else bs
 
 -- an integer's value
 abbrev pub integer_value : List ℕ → ℕ

@@ -24,15 +24,16 @@ use Rattle.erl_syntax.specs.Spellings.{spelling, first_mark, first_word}
 
 -- The bytes of the white space at the front: one of the characters 0 to 32, or of 128 to 160, which UTF-8 writes as 194 and a byte of that number.
 abbrev pub white_len : List ℕ → ℕ
-white_len [] = 0
-white_len (b ∷ bs) = if nat_le b 32 then 1 else (if b == 194 && (nat_le 128 (slice_index bs 0) && nat_le (slice_index bs 0) 160) then 2 else 0)
+white_len bs = if length bs == 0 then 0
+    else (if nat_le (slice_index bs 0) 32 then 1
+    else (if slice_index bs 0 == 194 && (nat_le 128 (slice_index bs 1) && nat_le (slice_index bs 1) 160) then 2 else 0))
 
--- a comment goes from `%` to before the line feed
+-- a comment goes from `%` to before the line feed (10)
 abbrev pub comment_len : List ℕ → ℕ
-comment_len bs = prefix_len (λ b. not (b == 10)) bs
+comment_len bs = 1 + prefix_len (λ b. not (b == 10)) (drop 1 bs)
 
 abbrev pub comment : Bool → List ℕ → Piece
-comment cut bs = if cut && comment_len bs == length bs then p.Fault why.NotUtf8 (length bs) else p.Blank (comment_len bs)
+comment cut bs = if cut && comment_len bs == length bs then p.Fault why.NotUtf8 (comment_len bs) else p.Blank (comment_len bs)
 
 -- ---- Names: atoms, variables and reserved words
 
@@ -55,13 +56,13 @@ named (Some word) name = p.Token word (length name)
 named None name = if is_ascii_lowercase (slice_index name 0) && nat_lt 255 (length name) then p.Fault why.AtomTooLong 0
     else p.Token (name_kind name) (length name)
 
--- as many of the characters of a name as stand there
+-- a name's first character, and then as many of a name as stand there
 abbrev pub name : List ℕ → Piece
-name bs = let word = take (prefix_len is_name bs) bs in named (first_word RESERVED word) word
+name bs = let word = take (1 + prefix_len is_name (drop 1 bs)) bs in named (first_word RESERVED word) word
 
 -- ---- Integers
 
--- the bytes of digits of a base, with single `_` (95) between two of them
+-- the bytes behind a digit that go on with digits of a base, with single `_` (95) between two of them
 abbrev pub digits_len : ℕ → List ℕ → ℕ
 digits_len base [] = 0
 digits_len base (b ∷ bs) = if is_digit base b || (b == 95 && is_digit base (slice_index bs 0)) then suc (digits_len base bs) else 0
@@ -76,36 +77,36 @@ is_based base bs = (nat_le 2 base && nat_le base 36) && is_digit base (slice_ind
 
 -- the `len` bytes of a base with their `#`, and then digits of that base
 abbrev pub based : ℕ → ℕ → List ℕ → Piece
-based base len bs = if is_based base bs then integer (number base (take (digits_len base bs) bs)) (len + digits_len base bs)
-    else p.Fault why.BadNumber 0
+based base len bs = let n = 1 + digits_len base (drop 1 bs) in
+    if is_based base bs then integer (number base (take n bs)) (len + n) else p.Fault why.BadNumber 0
 
 -- decimal digits, and no full stop (46) and digit behind them
 abbrev pub decimal : List ℕ → Piece
-decimal bs = let n = digits_len 10 bs in
+decimal bs = let n = 1 + digits_len 10 (drop 1 bs) in
     if slice_index bs n == 46 && is_digit 10 (slice_index bs (n + 1)) then p.Fault why.Float 0
     else integer (number 10 (take n bs)) n
 
 -- decimal digits without `_` right before `#` (35) are a base
 abbrev pub integer_at : List ℕ → Piece
-integer_at bs = let n = prefix_len (is_digit 10) bs in
+integer_at bs = let n = 1 + prefix_len (is_digit 10) (drop 1 bs) in
     if slice_index bs n == 35 then based (number 10 (take n bs)) (n + 1) (drop (n + 1) bs) else decimal bs
 
 -- ---- Characters, strings and quoted atoms
 
 -- what a backslash makes of the text, that stands `at` bytes after the front and begins no escape with the bytes behind it
 abbrev pub no_escape : Bool → ℕ → List ℕ → Piece
-no_escape cut at [] = if cut then p.Fault why.NotUtf8 (at + 1) else p.Fault why.BadEscape at
-no_escape cut at (b ∷ bs) = p.Fault why.BadEscape at
+no_escape cut at bs = if cut && length bs == 0 then p.Fault why.NotUtf8 (at + 1) else p.Fault why.BadEscape at
 
 -- `$` and a backslash
 abbrev pub escaped_character : Bool → Option ℕ → List ℕ → Piece
 escaped_character cut (Some n) bs = p.Token k.Character (n + 2)
 escaped_character cut None bs = no_escape cut 1 bs
 
--- `$` and, behind it, a character or an escape
+-- `$` (36) and a character or an escape
 abbrev pub character : Bool → List ℕ → Piece
-character cut [] = if cut then p.Fault why.NotUtf8 1 else p.Fault why.UnexpectedCharacter 0
-character cut (b ∷ bs) = if b == 92 then escaped_character cut (escape_len bs) bs else p.Token k.Character (character_len (b ∷ bs) + 1)
+character cut bs = if length bs == 1 then (if cut then p.Fault why.NotUtf8 1 else p.Fault why.UnexpectedCharacter 0)
+    else (if slice_index bs 1 == 92 then escaped_character cut (escape_len (drop 2 bs)) (drop 2 bs)
+    else p.Token k.Character (1 + character_len (drop 1 bs)))
 
 -- From `at` bytes after the opening quote `mark` on, where `skip` bytes more belong to the character or escape before: the token of this kind,
 -- which the next `mark` closes that stands in no escape, or its first fault.
@@ -133,8 +134,7 @@ quoted_atom cut bs = limited bs (quoted 39 k.Atom cut 1 0 (drop 1 bs))
 
 -- white space, a comment (37) or the end of the text
 abbrev pub ends_form : Bool → List ℕ → Bool
-ends_form cut [] = not cut
-ends_form cut (b ∷ bs) = b == 37 || nat_lt 0 (white_len (b ∷ bs))
+ends_form cut bs = if length bs == 0 then not cut else (slice_index bs 0 == 37 || nat_lt 0 (white_len bs))
 
 -- a full stop that ends a form
 abbrev pub full_stop : Bool → List ℕ → Piece
@@ -158,7 +158,7 @@ piece cut bs = let b = slice_index bs 0 in
     else (if b == 37 then comment cut bs
     else (if begins_name b then name bs
     else (if is_digit 10 b then integer_at bs
-    else (if b == 36 then character cut (drop 1 bs)
+    else (if b == 36 then character cut bs
     else (if b == 34 then string cut bs
     else (if b == 39 then quoted_atom cut bs
     else mark cut bs))))))
