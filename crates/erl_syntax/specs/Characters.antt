@@ -43,9 +43,13 @@ number base bs = number_after base 0 bs
 
 -- ---- Escapes: what follows a backslash (Reference Manual, "Data Types", "Escape Sequences")
 
--- one to three octal digits
+-- an octal digit, and up to two more
 abbrev pub octal_len : List ℕ → ℕ
-octal_len bs = prefix_len (is_digit 8) (take 3 bs)
+octal_len bs = if is_digit 8 (slice_index bs 1) then (if is_digit 8 (slice_index bs 2) then 3 else 2) else 1
+
+abbrev pub octal_number : List ℕ → ℕ
+octal_number bs = let first = digit_value (slice_index bs 0) in let second = digit_value (slice_index bs 1) in let third = digit_value (slice_index bs 2) in
+    if is_digit 8 (slice_index bs 1) then (if is_digit 8 (slice_index bs 2) then (first * 8 + second) * 8 + third else first * 8 + second) else first
 
 -- hexadecimal digits and `}` (125), where they are a character's number
 abbrev pub braced_len : List ℕ → Option ℕ
@@ -87,11 +91,11 @@ named_number bs = let b = slice_index bs 0 in
 -- after `x`: the number of two hexadecimal digits, or of those after `{`
 abbrev pub hexadecimal_number : List ℕ → ℕ
 hexadecimal_number bs = if slice_index bs 0 == 123 then number 16 (take (prefix_len (is_digit 16) (drop 1 bs)) (drop 1 bs))
-    else number 16 (take 2 bs)
+    else digit_value (slice_index bs 0) * 16 + digit_value (slice_index bs 1)
 
 -- The number of the character that an escape stands for. After `^` it is the letter's number in the alphabet.
 abbrev pub escape_number : List ℕ → ℕ
-escape_number bs = if is_digit 8 (slice_index bs 0) then number 8 (take (octal_len bs) bs)
+escape_number bs = if is_digit 8 (slice_index bs 0) then octal_number bs
     else (if slice_index bs 0 == 120 then hexadecimal_number (drop 1 bs)
     else (if slice_index bs 0 == 94 then digit_value (slice_index bs 1) - 9
     else named_number bs))

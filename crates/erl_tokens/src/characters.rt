@@ -1,8 +1,7 @@
-ghost use Rattle.std.specs.Prelude.{◌≡◌, ℕ, ◌+◌, ◌≤◌, ◌<◌, ◌*◌, ◌%◌, ◌^◌, length, slice_index, MatchOption, not, ◌==◌};
+ghost use Rattle.std.specs.Prelude.{◌≡◌, ℕ, ◌+◌, ◌≤◌, ◌<◌, ◌*◌, ◌%◌, ◌^◌, length, slice_index, MatchOption, IsTrue, ◌==◌};
 ghost use Rattle.std.specs.List.{prefix_len};
 ghost use Rattle.std.specs.Char.{digit_value};
-ghost use Rattle.std.specs.Str.{continuation_len, lead_bits};
-ghost use Rattle.erl_syntax.specs.Characters.{is_continuation, is_digit, first_number, number, with_digit};
+ghost use Rattle.erl_syntax.specs.Characters.{is_continuation, character_len, is_digit, first_number, number, with_digit};
 ghost use Rattle.erl_syntax.specs.Tokens.{is_name, digits_len, comment_len};
 
 /// An integer of this profile is below it.
@@ -13,6 +12,15 @@ pub(crate) fn byte_at(bs: &[u8], index: usize) -> u8
     ensures { result ≡ slice_index bs.now index }
 {
     if index < bs.len() { bs[index] } else { 0 }
+}
+
+/// Whether that byte, which is not 0, stands at the index.
+pub(crate) fn is_at(bs: &[u8], index: usize, b: u8) -> bool
+    requires { 0 < b }
+    ensures value { result ≡ (slice_index bs.now index == b) }
+    ensures inside { IsTrue result → index < length bs.now }
+{
+    byte_at(bs, index) == b
 }
 
 /// Whether the byte goes on with a character (RFC 3629: 10xxxxxx).
@@ -75,13 +83,33 @@ pub(crate) fn continuation_run(bs: &[u8]) -> usize
     n
 }
 
-/// The number with the low six bits of one more byte behind it.
-fn continued(number: u32, b: u8) -> u32
-    requires { number < 65536 }
-    ensures value { result ≡ number * 64 + b % 64 }
-    ensures small { result < (number + 1) * 64 }
+/// How many bytes the character at the front takes.
+pub(crate) fn character_len(bs: &[u8]) -> usize
+    requires { 0 < length bs.now }
+    ensures value { result ≡ character_len bs.now }
+    ensures within { (0 < result) × (result ≤ length bs.now) }
 {
-    number * 64 + u32::from(b % 64)
+    1 + continuation_run(&bs[1..])
+}
+
+/// The number of the character at the front, from its first byte and the low six bits of each that goes on.
+pub(crate) fn first_number(bs: &[u8]) -> u32
+    ensures value { result ≡ first_number bs.now }
+    ensures small { result < 2 ^ 22 }
+{
+    let first = u32::from(byte_at(bs, 0));
+    let second = u32::from(byte_at(bs, 1) % 64);
+    let third = u32::from(byte_at(bs, 2) % 64);
+    if first < 128 {
+        first
+    } else if first < 224 {
+        first.saturating_sub(192) * 64 + second
+    } else if first < 240 {
+        ((first - 224) * 64 + second) * 64 + third
+    } else {
+        let fourth = u32::from(byte_at(bs, 3) % 64);
+        (((first - 240) * 64 + second) * 64 + third) * 64 + fourth
+    }
 }
 
 /// The number of the digits, `_` left out, where it is below 2^127.

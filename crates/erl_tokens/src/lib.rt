@@ -2,5 +2,6 @@
 #![tactic(auto)]
 
 mod characters;
+mod escapes;
 
 pub use erl_syntax::{LexCause, LexFault, Token, TokenKind};
