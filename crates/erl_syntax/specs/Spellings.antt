@@ -80,16 +80,10 @@ spelling k.Character = []
 spelling k.Str = []
 spelling k.FullStop = []
 
--- the first of these kinds with whose characters the text begins
-abbrev pub first_mark : List TokenKind → List ℕ → Option TokenKind
-first_mark [] bs = None
-first_mark (kind ∷ kinds) bs = if starts_with (λ a b. a == b) bs (spelling kind) then Some kind else first_mark kinds bs
+-- the text begins with the characters of the kind
+abbrev pub begins_with : List ℕ → TokenKind → Bool
+begins_with bs kind = starts_with (λ a b. a == b) bs (spelling kind)
 
 -- the word is spelled so
 abbrev pub is_spelled : List ℕ → TokenKind → Bool
-is_spelled word kind = length word == length (spelling kind) && starts_with (λ a b. a == b) word (spelling kind)
-
--- the first of these kinds that is spelled so
-abbrev pub first_word : List TokenKind → List ℕ → Option TokenKind
-first_word [] word = None
-first_word (kind ∷ kinds) word = if is_spelled word kind then Some kind else first_word kinds word
+is_spelled word kind = length word == length (spelling kind) && begins_with word kind

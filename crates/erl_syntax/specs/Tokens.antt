@@ -4,7 +4,7 @@
 -- A piece is what stands at the front of a text: white space or a comment, the longest token, or a fault.
 -- A text is read up to its first byte that belongs to no character: `cut` says that there is one.
 use Rattle.std.specs.Prelude.{ℕ, zero, suc, ◌+◌, ◌-◌, ◌^◌, ◌≡◌, ◌<◌, Bool, true, false, ◌&&◌, ◌||◌, not, nat_le, nat_lt, ◌==◌, if◌then◌else◌, List, [], ◌∷◌, length, take, drop, slice_index, Option, Some, None}
-use Rattle.std.specs.List.{prefix_len}
+use Rattle.std.specs.List.{prefix_len, find}
 use Rattle.std.specs.Char.{is_ascii_alphabetic, is_ascii_alphanumeric, is_ascii_lowercase}
 use Rattle.std.specs.Str.Lossy.{utf8_valid_len}
 use Rattle.erl_syntax.specs.declared.token.TheConstants.{RESERVED, MARKS}
@@ -18,7 +18,7 @@ use Rattle.erl_syntax.specs.declared.token.LexCause.TheVariants as why
 use Rattle.erl_syntax.specs.declared.token.Piece.{Piece}
 use Rattle.erl_syntax.specs.declared.token.Piece.TheVariants as p
 use Rattle.erl_syntax.specs.Characters.{is_continuation, character_len, is_digit, number, escape_len, between_quotes, spelled}
-use Rattle.erl_syntax.specs.Spellings.{spelling, first_mark, first_word}
+use Rattle.erl_syntax.specs.Spellings.{spelling, begins_with, is_spelled}
 
 -- ---- White space and comments
 
@@ -58,7 +58,7 @@ named None name = if is_ascii_lowercase (slice_index name 0) && nat_lt 255 (leng
 
 -- a name's first character, and then as many of a name as stand there
 abbrev pub name : List ℕ → Piece
-name bs = let word = take (1 + prefix_len is_name (drop 1 bs)) bs in named (first_word RESERVED word) word
+name bs = let word = take (1 + prefix_len is_name (drop 1 bs)) bs in named (find (is_spelled word) RESERVED) word
 
 -- ---- Integers
 
@@ -140,13 +140,14 @@ ends_form cut bs = if length bs == 0 then not cut else (slice_index bs 0 == 37 |
 abbrev pub full_stop : Bool → List ℕ → Piece
 full_stop cut bs = if slice_index bs 0 == 46 && ends_form cut (drop 1 bs) then p.Token k.FullStop 1 else p.Fault why.UnexpectedCharacter 0
 
--- the longest mark that stands there, or a full stop
+-- a mark, or else a full stop
 abbrev pub marked : Option TokenKind → Bool → List ℕ → Piece
 marked (Some kind) cut bs = p.Token kind (length (spelling kind))
 marked None cut bs = full_stop cut bs
 
+-- the longest mark that stands there: `MARKS` has each mark before those that it begins with
 abbrev pub mark : Bool → List ℕ → Piece
-mark cut bs = marked (first_mark MARKS bs) cut bs
+mark cut bs = marked (find (begins_with bs) MARKS) cut bs
 
 -- ---- The text
 

@@ -3,5 +3,6 @@
 
 mod characters;
 mod escapes;
+mod names;
 
 pub use erl_syntax::{LexCause, LexFault, Token, TokenKind};

@@ -1,4 +1,4 @@
-use Rattle.std.proofs.Common.{◌≡◌, ◌∙◌, ◌<◌, ◌≤◌, ◌^◌, arith, length, sym, subst, drop, ℕ, ◌+◌}
+use Rattle.std.proofs.Common.{◌≡◌, ◌∙◌, ◌^◌, sym, subst, drop, ℕ, ◌+◌}
 use Rattle.erl_syntax.specs.Characters.{number, number_after}
 use Rattle.erl_tokens.proofs.Numbers.{number_step, too_wide}
 use Rattle.erl_tokens.proofs.characters.number.Goals as goal

@@ -1,4 +1,4 @@
-use Rattle.std.proofs.Common.{◌≡◌, ◌<◌, ◌^◌, length, drop}
+use Rattle.std.proofs.Common.{◌≡◌, ◌<◌, ◌^◌, drop}
 use Rattle.erl_syntax.specs.Characters.{number, number_after}
 use Rattle.erl_tokens.proofs.characters.number.Given as goal
 
