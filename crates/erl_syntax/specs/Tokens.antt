@@ -62,10 +62,14 @@ name bs = let word = take (1 + prefix_len is_name (drop 1 bs)) bs in named (find
 
 -- ---- Integers
 
--- the bytes behind a digit that go on with digits of a base, with single `_` (95) between two of them
+-- digits of a base go on with the byte before the next one: a digit, or `_` (95) before a digit
+abbrev pub goes_on : ℕ → ℕ → ℕ → Bool
+goes_on base b next = is_digit base b || (b == 95 && is_digit base next)
+
+-- the bytes behind a digit that go on with digits of a base, with single `_` between two of them
 abbrev pub digits_len : ℕ → List ℕ → ℕ
 digits_len base [] = 0
-digits_len base (b ∷ bs) = if is_digit base b || (b == 95 && is_digit base (slice_index bs 0)) then suc (digits_len base bs) else 0
+digits_len base (b ∷ bs) = if goes_on base b (slice_index bs 0) then suc (digits_len base bs) else 0
 
 -- an integer of this value, in so many bytes
 abbrev pub integer : ℕ → ℕ → Piece

@@ -3,6 +3,7 @@
 
 mod characters;
 mod escapes;
+mod integers;
 mod names;
 
 pub use erl_syntax::{LexCause, LexFault, Token, TokenKind};
