@@ -1,7 +1,6 @@
 -- Characters of a text: what UTF-8 (RFC 3629) makes of its bytes, the digits of a base, and escapes.
 use Rattle.std.specs.Prelude.{ℕ, zero, suc, ◌+◌, ◌-◌, ◌*◌, ◌%◌, Bool, ◌&&◌, ◌||◌, nat_le, nat_lt, ◌==◌, if◌then◌else◌, List, [], ◌∷◌, take, drop, slice_index, Option, Some, None, encode_utf8_all, length}
 use Rattle.std.specs.List.{prefix_len}
-use Rattle.std.specs.Option.{unwrap_or}
 use Rattle.std.specs.Char.{is_ascii_alphabetic, digit_value}
 
 -- a byte that goes on with a character (RFC 3629, section 3: 10xxxxxx)
@@ -102,13 +101,32 @@ escape_number bs = if is_digit 8 (slice_index bs 0) then octal_number bs
 
 -- ---- What a token stands for
 
--- The numbers of the characters that the bytes between quotes stand for, where `skip` bytes more belong to the one before:
--- an escape stands for one character, and any other character for itself.
-abbrev pub spelled : ℕ → List ℕ → List ℕ
-spelled skip [] = []
-spelled (suc skip) (b ∷ bs) = spelled skip bs
-spelled zero (b ∷ bs) = if b == 92 then escape_number bs ∷ spelled (unwrap_or (escape_len bs) 0) bs
-    else first_number (b ∷ bs) ∷ spelled (prefix_len is_continuation bs) bs
+-- the bytes of a backslash and its escape
+abbrev pub escaped_len : Option ℕ → ℕ
+escaped_len (Some n) = 1 + n
+escaped_len None = 1
+
+-- the number that they stand for; a backslash that begins no escape, as none in a token does, would stand for itself
+abbrev pub escaped_number : Option ℕ → List ℕ → ℕ
+escaped_number (Some n) bs = escape_number bs
+escaped_number None bs = 92
+
+-- how many bytes take the character or, after a backslash (92), the escape at the front
+abbrev pub spelled_len : List ℕ → ℕ
+spelled_len bs = if slice_index bs 0 == 92 then escaped_len (escape_len (drop 1 bs)) else character_len bs
+
+-- the number of the character that they stand for
+abbrev pub spelled_number : List ℕ → ℕ
+spelled_number bs = if slice_index bs 0 == 92 then escaped_number (escape_len (drop 1 bs)) (drop 1 bs) else first_number bs
+
+-- the numbers of the characters that the bytes between quotes stand for, where `skip` bytes more belong to the one before
+abbrev pub spelled_from : ℕ → List ℕ → List ℕ
+spelled_from skip [] = []
+spelled_from (suc skip) (b ∷ bs) = spelled_from skip bs
+spelled_from zero (b ∷ bs) = spelled_number (b ∷ bs) ∷ spelled_from (spelled_len (b ∷ bs) - 1) bs
+
+abbrev pub spelled : List ℕ → List ℕ
+spelled bs = spelled_from 0 bs
 
 -- the bytes between the quotes of a string or a quoted atom
 abbrev pub between_quotes : List ℕ → List ℕ
@@ -116,15 +134,15 @@ between_quotes bs = take (length bs - 2) (drop 1 bs)
 
 -- the numbers of a string's characters
 abbrev pub string_characters : List ℕ → List ℕ
-string_characters bs = spelled 0 (between_quotes bs)
+string_characters bs = spelled (between_quotes bs)
 
 -- an atom's characters, in UTF-8: a bare atom's are its own bytes
 abbrev pub atom_text : List ℕ → List ℕ
-atom_text bs = if slice_index bs 0 == 39 then encode_utf8_all (spelled 0 (between_quotes bs)) else bs
+atom_text bs = if slice_index bs 0 == 39 then encode_utf8_all (spelled (between_quotes bs)) else bs
 
 -- the number of the character that `$` and a character or an escape stand for
 abbrev pub character_number : List ℕ → ℕ
-character_number bs = if slice_index bs 1 == 92 then escape_number (drop 2 bs) else first_number (drop 1 bs)
+character_number bs = spelled_number (drop 1 bs)
 
 -- the base of an integer's digits: the number before `#` (35), or ten
 abbrev pub integer_base : List ℕ → ℕ

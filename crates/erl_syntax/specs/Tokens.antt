@@ -123,7 +123,7 @@ quoted mark kind cut at zero (b ∷ bs) = if b == mark then p.Token kind (at + 1
 
 -- a quoted atom of more than 255 characters is a fault
 abbrev pub limited : List ℕ → Piece → Piece
-limited bs (p.Token kind n) = if nat_lt 255 (length (spelled 0 (between_quotes (take n bs)))) then p.Fault why.AtomTooLong 0 else p.Token kind n
+limited bs (p.Token kind n) = if nat_lt 255 (length (spelled (between_quotes (take n bs)))) then p.Fault why.AtomTooLong 0 else p.Token kind n
 limited bs (p.Blank n) = p.Blank n
 limited bs (p.Fault cause n) = p.Fault cause n
 

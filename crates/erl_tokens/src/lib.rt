@@ -5,5 +5,6 @@ mod characters;
 mod escapes;
 mod integers;
 mod names;
+mod quotes;
 
 pub use erl_syntax::{LexCause, LexFault, Token, TokenKind};
