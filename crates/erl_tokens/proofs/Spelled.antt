@@ -1,13 +1,12 @@
 -- Quotes, one character or escape at a time.
-use Rattle.std.proofs.Common.{◌≡◌, ℕ, zero, suc, ◌+◌, ◌-◌, ◌<◌, ◌≤◌, Bool, true, false, ◌==◌, if◌then◌else◌, List, [], ◌∷◌, length, drop, get_or, Option, Some, None, refl, arith, ap, sym, ◌∙◌, add-one, add-zero}
+use Rattle.std.proofs.Common.{◌≡◌, ℕ, zero, suc, ◌+◌, ◌-◌, ◌<◌, ◌≤◌, Bool, true, false, ◌==◌, List, [], ◌∷◌, length, drop, get_or, Some, None, refl, arith, ap, sym, ◌∙◌, add-zero}
 use Rattle.std.proofs.lemmas.Grind.{common_steps}
 use Rattle.std.proofs.lemmas.List.{drop-drop, length-drop}
 use Rattle.erl_syntax.specs.declared.token.TokenKind.{TokenKind}
 use Rattle.erl_syntax.specs.declared.token.TokenKind.TheVariants as k
-use Rattle.erl_syntax.specs.declared.token.Piece.{Piece}
 use Rattle.erl_syntax.specs.declared.token.Piece.TheVariants as p
 use Rattle.erl_syntax.specs.Characters.{escape_len, character_len, spelled, spelled_from, spelled_len, spelled_number}
-use Rattle.erl_syntax.specs.Tokens.{quoted, no_escape, character, escaped_character}
+use Rattle.erl_syntax.specs.Tokens.{quoted, no_escape, character}
 use Rattle.erl_tokens.proofs.Numbers.{at_front}
 
 pub is_same : (a b : ℕ) → a ≡ b → (a == b) ≡ true

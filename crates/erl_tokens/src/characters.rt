@@ -137,6 +137,8 @@ fn with_digit(number: u128, base: u8, b: u8) -> Option<u128>
     if b == b'_' {
         return Some(number);
     }
-    let next = number.checked_mul(u128::from(base))?.checked_add(u128::from(digit_value(b)))?;
+    let next = number
+        .checked_mul(u128::from(base))?
+        .checked_add(u128::from(digit_value(b)))?;
     if next < LIMIT { Some(next) } else { None }
 }

@@ -4,7 +4,9 @@ ghost use Rattle.erl_syntax.specs.Characters.{escape_len, escape_number, named_n
 ghost use Rattle.std.specs.List.{prefix_len};
 ghost use Rattle.std.specs.Char.{digit_value};
 
-use crate::characters::{byte_at, character_len, digit_run, digit_value, first_number, is_at, is_digit, number};
+use crate::characters::{
+    byte_at, character_len, digit_run, digit_value, first_number, is_at, is_digit, number,
+};
 
 /// What follows a backslash: the number of the character that it stands for, and its bytes.
 #[derive(Clone, Copy, Debug)]
@@ -44,7 +46,10 @@ fn octal(bs: &[u8]) -> Escaped
 {
     let first = u32::from(digit_value(bs[0]));
     if bs.len() < 2 || !is_digit(8, bs[1]) {
-        return Escaped { number: first, len: 1 };
+        return Escaped {
+            number: first,
+            len: 1,
+        };
     }
     let second = first * 8 + u32::from(digit_value(bs[1]));
     if bs.len() < 3 || !is_digit(8, bs[2]) {

@@ -3,9 +3,8 @@ ghost use Rattle.erl_syntax.specs.Characters.{is_digit, number};
 ghost use Rattle.erl_syntax.specs.Tokens.{integer_at, decimal, based, is_based, integer, digits_len, goes_on};
 ghost use Rattle.erl_tokens.specs.Pieces.{IsWithin};
 
-use erl_syntax::{LexCause, Piece, TokenKind};
-
 use crate::characters::{byte_at, digit_run, is_at, is_digit, number};
+use erl_syntax::{LexCause, Piece, TokenKind};
 
 /// Whether digits of the base go on with that byte before the next one: a digit, or `_` before a digit.
 fn goes_on(base: u8, b: u8, next: u8) -> bool

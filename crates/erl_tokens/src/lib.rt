@@ -4,7 +4,12 @@
 mod characters;
 mod escapes;
 mod integers;
+mod lexing;
+mod marks;
 mod names;
+mod pieces;
 mod quotes;
+mod spans;
 
 pub use erl_syntax::{LexCause, LexFault, Token, TokenKind};
+pub use lexing::tokens;

@@ -47,7 +47,10 @@ fn is_spelled(word: &[u8], kind: TokenKind) -> bool
 fn reserved(word: &[u8]) -> Option<TokenKind>
     ensures { result ≡ find (is_spelled word.now) RESERVED }
 {
-    RESERVED.iter().copied().find(|kind| is_spelled(word, *kind))
+    RESERVED
+        .iter()
+        .copied()
+        .find(|kind| is_spelled(word, *kind))
 }
 
 /// The kind of a name that is no reserved word.

@@ -3,11 +3,10 @@ ghost use Rattle.erl_syntax.specs.Characters.{spelled, spelled_len, spelled_numb
 ghost use Rattle.erl_syntax.specs.Tokens.{no_escape, quoted, string, quoted_atom, character, limited};
 ghost use Rattle.erl_tokens.specs.Pieces.{IsWithin};
 
-use erl_syntax::{LexCause, Piece, TokenKind};
-
 use crate::characters::{character_len, first_number};
 use crate::escapes::{Escaped, escape};
 use crate::names::ATOM_LEN;
+use erl_syntax::{LexCause, Piece, TokenKind};
 
 /// The character or escape at the front: the number that it stands for, and its bytes.
 pub(crate) fn unit(bs: &[u8]) -> Escaped
@@ -125,7 +124,11 @@ fn limited(bs: &[u8], kind: TokenKind) -> Piece
 pub(crate) fn between_quotes(bs: &[u8]) -> &[u8]
     ensures { result.now ≡ between_quotes bs.now }
 {
-    if bs.len() < 2 { &[] } else { &bs[1..bs.len() - 1] }
+    if bs.len() < 2 {
+        &[]
+    } else {
+        &bs[1..bs.len() - 1]
+    }
 }
 
 /// `$` and, behind it, a character or an escape.

@@ -1,4 +1,4 @@
-use Rattle.std.proofs.Common.{◌≡◌, ◌∙◌, ◌+◌, ◌<◌, ◌≤◌, arith, true, false, get_or, length, rules}
+use Rattle.std.proofs.Common.{◌≡◌, ◌+◌, arith, true, false, get_or, rules}
 use Rattle.erl_syntax.specs.Tokens.{goes_on}
 use Rattle.erl_tokens.proofs.Numbers.{digits_go_on, digits_stop}
 use Rattle.erl_tokens.proofs.integers.digits_len.Goals as goal

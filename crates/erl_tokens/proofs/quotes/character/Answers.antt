@@ -1,4 +1,4 @@
-use Rattle.std.proofs.Common.{arith, rules, ◌∙◌}
+use Rattle.std.proofs.Common.{arith, ◌∙◌}
 use Rattle.std.proofs.lemmas.List.{take_rest}
 use Rattle.erl_tokens.proofs.Spelled.{plain_character, escaped_dollar, unescaped_dollar}
 use Rattle.erl_tokens.proofs.quotes.character.Goals as goal

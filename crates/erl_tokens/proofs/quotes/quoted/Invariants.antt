@@ -1,4 +1,4 @@
-use Rattle.std.proofs.Common.{◌≡◌, ◌+◌, ◌-◌, ◌≤◌, length, drop}
+use Rattle.std.proofs.Common.{◌≡◌, ◌-◌, ◌≤◌, length, drop}
 use Rattle.erl_syntax.specs.Tokens.{quoted}
 use Rattle.erl_tokens.proofs.quotes.quoted.Given as goal
 

@@ -1,4 +1,4 @@
-use Rattle.std.proofs.Common.{◌≡◌, ◌+◌, ◌≤◌, ◌<◌, ℕ, drop, length, arith, rules, ◌∙◌, sym, subst, ap}
+use Rattle.std.proofs.Common.{length, arith, ap}
 use Rattle.std.proofs.lemmas.List.{take_rest}
 use Rattle.erl_tokens.proofs.Spelled.{spelled_step}
 use Rattle.erl_tokens.proofs.quotes.spelled_count.Goals as goal
