@@ -1,5 +1,5 @@
 -- Characters of a text: what UTF-8 (RFC 3629) makes of its bytes, the digits of a base, and escapes.
-use Rattle.std.specs.Prelude.{ℕ, zero, suc, ◌+◌, ◌-◌, ◌*◌, ◌%◌, Bool, ◌&&◌, ◌||◌, nat_le, nat_lt, ◌==◌, if◌then◌else◌, List, [], ◌∷◌, take, drop, slice_index, Option, Some, None, encode_utf8_all, length}
+use Rattle.std.specs.Prelude.{ℕ, zero, suc, ◌+◌, ◌-◌, ◌*◌, ◌%◌, Bool, ◌&&◌, ◌||◌, nat_le, nat_lt, ◌==◌, if◌then◌else◌, List, [], ◌∷◌, take, drop, slice_index, Option, Some, None, encode_utf8_all, length, map}
 use Rattle.std.specs.List.{prefix_len}
 use Rattle.std.specs.Char.{is_ascii_alphabetic, digit_value}
 
@@ -136,9 +136,13 @@ between_quotes bs = take (length bs - 2) (drop 1 bs)
 abbrev pub string_characters : List ℕ → List ℕ
 string_characters bs = spelled (between_quotes bs)
 
+-- the number, or that of the replacement character in the place of one that is no character's, as none is that a token spells
+abbrev pub as_scalar : ℕ → ℕ
+as_scalar n = if is_scalar n then n else 0xFFFD
+
 -- an atom's characters, in UTF-8: a bare atom's are its own bytes
 abbrev pub atom_text : List ℕ → List ℕ
-atom_text bs = if slice_index bs 0 == 39 then encode_utf8_all (spelled (between_quotes bs)) else bs
+atom_text bs = if slice_index bs 0 == 39 then encode_utf8_all (map as_scalar (spelled (between_quotes bs))) else bs
 
 -- the number of the character that `$` and a character or an escape stand for
 abbrev pub character_number : List ℕ → ℕ

@@ -1,11 +1,12 @@
 -- Quotes, one character or escape at a time.
-use Rattle.std.proofs.Common.{◌≡◌, ℕ, zero, suc, ◌+◌, ◌-◌, ◌<◌, ◌≤◌, Bool, true, false, ◌==◌, List, [], ◌∷◌, length, drop, get_or, Some, None, refl, arith, ap, sym, ◌∙◌, add-zero}
+use Rattle.std.proofs.Common.{◌≡◌, ℕ, zero, suc, ◌+◌, ◌-◌, ◌<◌, ◌≤◌, Bool, true, false, ◌==◌, List, [], ◌∷◌, length, drop, get_or, Some, None, refl, arith, ap, sym, ◌∙◌, add-zero, ◌++◌, map, append_assoc, encode_utf8_all}
+use Rattle.std.specs.Char.{encode_utf8}
 use Rattle.std.proofs.lemmas.Grind.{common_steps}
 use Rattle.std.proofs.lemmas.List.{drop-drop, length-drop}
 use Rattle.erl_syntax.specs.declared.token.TokenKind.{TokenKind}
 use Rattle.erl_syntax.specs.declared.token.TokenKind.TheVariants as k
 use Rattle.erl_syntax.specs.declared.token.Piece.TheVariants as p
-use Rattle.erl_syntax.specs.Characters.{escape_len, character_len, spelled, spelled_from, spelled_len, spelled_number}
+use Rattle.erl_syntax.specs.Characters.{escape_len, character_len, spelled, spelled_from, spelled_len, spelled_number, as_scalar}
 use Rattle.erl_syntax.specs.Tokens.{quoted, no_escape, character}
 use Rattle.erl_tokens.proofs.Numbers.{at_front}
 
@@ -111,3 +112,19 @@ pub after_escape : (mark : ℕ) (kind : TokenKind) (cut : Bool) (at next len : �
     (get_or bs at 0 ≡ mark → ⊥) → get_or bs at 0 ≡ 92 → escape_len tail ≡ Some len → len ≤ length tail →
     quoted mark kind cut at 0 (drop at bs) ≡ quoted mark kind cut (next + 1) 0 (drop (next + 1) bs)
 after_escape mark kind cut at next len bs tail m t h e f n l = quoted_escape mark kind cut at len bs tail t h e f n l ∙ moved mark kind cut (at + len) next bs m
+
+pub spelled_push : (i len number : ℕ) (bs tail done more : List ℕ) → tail ≡ drop i bs → i < length bs → 0 < len → len ≡ spelled_len tail → number ≡ spelled_number tail →
+    more ≡ done ++ (number ∷ []) → spelled bs ≡ done ++ spelled (drop i bs) → spelled bs ≡ more ++ spelled (drop (i + len) bs)
+spelled_push i len number bs tail done more t h p l n m e =
+    let rest : List ℕ = spelled (drop (i + len) bs) in
+    let s : spelled (drop i bs) ≡ number ∷ rest = spelled_step i len bs tail t h p l ∙ ap (λ x. x ∷ rest) (sym n) in
+    e ∙ ap (λ u. done ++ u) s ∙ sym (append_assoc done (number ∷ []) rest) ∙ ap (λ u. u ++ rest) (sym m)
+
+pub text_push : (i len number : ℕ) (bs tail done more : List ℕ) → tail ≡ drop i bs → i < length bs → 0 < len → len ≡ spelled_len tail → number ≡ spelled_number tail →
+    more ≡ done ++ encode_utf8 (as_scalar number) → encode_utf8_all (map as_scalar (spelled bs)) ≡ done ++ encode_utf8_all (map as_scalar (spelled (drop i bs))) →
+    encode_utf8_all (map as_scalar (spelled bs)) ≡ more ++ encode_utf8_all (map as_scalar (spelled (drop (i + len) bs)))
+text_push i len number bs tail done more t h p l n m e =
+    let rest : List ℕ = spelled (drop (i + len) bs) in
+    let s : spelled (drop i bs) ≡ number ∷ rest = spelled_step i len bs tail t h p l ∙ ap (λ x. x ∷ rest) (sym n) in
+    e ∙ ap (λ u. done ++ encode_utf8_all (map as_scalar u)) s ∙ sym (append_assoc done (encode_utf8 (as_scalar number)) (encode_utf8_all (map as_scalar rest))) ∙
+    ap (λ u. u ++ encode_utf8_all (map as_scalar rest)) (sym m)

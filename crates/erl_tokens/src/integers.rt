@@ -37,7 +37,7 @@ fn integer(digits: &[u8], base: u8, len: usize) -> Piece
 }
 
 /// The base of those digits, from 2 to 36.
-fn base_of(digits: &[u8]) -> Option<u8>
+pub(crate) fn base_of(digits: &[u8]) -> Option<u8>
     ensures { MatchOption result (nat_le 2 (number 10 digits.now) && nat_le (number 10 digits.now) 36 ≡ false) (λ base. (base ≡ number 10 digits.now) × (2 ≤ base) × (base ≤ 36)) }
 {
     match number(digits, 10) {

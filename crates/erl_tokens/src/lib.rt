@@ -10,6 +10,8 @@ mod names;
 mod pieces;
 mod quotes;
 mod spans;
+mod values;
 
 pub use erl_syntax::{LexCause, LexFault, Token, TokenKind};
 pub use lexing::tokens;
+pub use values::{atom_text, character_number, integer_value, string_characters};
