@@ -15,3 +15,6 @@ mod values;
 pub use erl_syntax::{LexCause, LexFault, Token, TokenKind};
 pub use lexing::tokens;
 pub use values::{atom_text, character_number, integer_value, string_characters};
+
+#[cfg(test)]
+mod tests;
