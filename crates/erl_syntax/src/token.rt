@@ -1,5 +1,6 @@
-ghost use Rattle.std.specs.Prelude.{◌≡◌};
-ghost use Rattle.erl_syntax.specs.Spellings.{spelling};
+ghost use Rattle.std.specs.Prelude.{◌≡◌, ◌≤◌, ℕ, List, length, true, All};
+ghost use Rattle.std.specs.List.{find};
+ghost use Rattle.erl_syntax.specs.Spellings.{spelling, begins_with};
 
 use crate::Span;
 use std::alloc::AllocFailed;
@@ -230,6 +231,12 @@ pub const MARKS: [TokenKind; 39] = [
     TokenKind::Question,
     TokenKind::Hash,
 ];
+
+/// Of the marks with which a text begins, the first of `MARKS` is a longest one.
+pub fn longest_mark_first()
+    ensures { (bs : List ℕ) (kind : TokenKind) → find (begins_with bs) MARKS ≡ Some kind → All (λ other. begins_with bs other ≡ true → length (spelling other) ≤ length (spelling kind)) MARKS }
+{
+}
 
 impl TokenKind {
     /// The characters of a reserved word or a mark. The other kinds have many spellings, and give no characters here.

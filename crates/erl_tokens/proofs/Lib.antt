@@ -4,3 +4,4 @@ pub mod Spelled
 pub mod FoundMark
 pub mod Placed
 pub mod Cut
+pub mod OneReading

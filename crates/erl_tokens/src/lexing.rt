@@ -1,7 +1,9 @@
-ghost use Rattle.std.specs.Prelude.{◌≡◌, ◌<◌, ◌≤◌, ◌+◌, ◌^◌, length, take, IfOk, IfErr, None};
+ghost use Rattle.std.specs.Prelude.{◌≡◌, ◌<◌, ◌≤◌, ◌+◌, ◌^◌, length, take, IfOk, IfErr, None, ℕ, List, Option};
 ghost use Rattle.std.specs.Str.Lossy.{utf8_valid_len};
 ghost use Rattle.erl_syntax.specs.Tokens.{Lexes, LexesFrom, front, is_cut};
 ghost use Rattle.erl_tokens.specs.Cutting.{IsFault};
+ghost use Rattle.erl_syntax.specs.declared.token.Token.{Token};
+ghost use Rattle.erl_syntax.specs.declared.token.LexFault.{LexFault};
 
 use crate::pieces::front_piece;
 use crate::spans::place_after;
@@ -63,4 +65,10 @@ pub fn tokens(alloc: Global, text: &[u8]) -> Result<Vec<Token>, LexFault>
         });
     }
     Ok(tokens)
+}
+
+/// A text has one list of tokens, up to its end or to its first fault.
+pub fn one_reading()
+    ensures { (text : List ℕ) (s t : List Token) (f g : Option LexFault) → Lexes text s f → Lexes text t g → (s ≡ t) × (f ≡ g) }
+{
 }
