@@ -1,5 +1,6 @@
 //! The top call of the program: what the words of a command line ask for, done over the ports that it is given.
 #![tactic(auto)]
 
+mod entry;
 mod form;
 
