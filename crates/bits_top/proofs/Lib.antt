@@ -1,1 +1,4 @@
+pub mod Ended
 pub mod Goes
+pub mod Words
+pub mod Written
