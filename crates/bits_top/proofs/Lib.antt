@@ -1,3 +1,4 @@
+pub mod Binding
 pub mod Ended
 pub mod Goes
 pub mod Words

@@ -4,6 +4,7 @@
 mod command;
 mod entry;
 mod form;
+mod matching;
 mod run;
 mod status;
 mod streams;
