@@ -1,1 +1,11 @@
+pub mod Asks
+pub mod Body
+pub mod Command
 pub mod Form
+pub mod Local
+pub mod Machine
+pub mod Stream
+pub mod Runs
+pub mod Texts
+pub mod Tree
+pub mod Value

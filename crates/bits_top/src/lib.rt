@@ -1,5 +1,13 @@
 //! The top call of the program: what the words of a command line ask for, done over the ports that it is given.
 #![tactic(auto)]
 
+mod command;
+mod entry;
 mod form;
+mod matching;
+mod run;
+mod status;
+mod streams;
+mod texts;
 
+pub use status::Status;

@@ -1,0 +1,27 @@
+-- The forms of a command line (this project's own).
+use Rattle.std.specs.Prelude.{◌≡◌, ℕ, ◌≤◌, ◌<◌, List, [], ◌∷◌, length, codes, decimal}
+use Rattle.bits_top.specs.declared.command.Run.{Run}
+use Rattle.bits_top.specs.declared.command.Command.{Command}
+use Rattle.bits_top.specs.declared.command.Command.TheVariants as c
+
+-- a number in decimal, without sign or leading zero, in a range
+pub record SpellsNumber (word : List ℕ) (low high n : ℕ) : Type 0 where
+  pub at_least : low ≤ n
+  pub at_most : n ≤ high
+  pub spelled : word ≡ decimal n
+
+-- the words `run MODULE ORDER SCHEDULERS REDUCTIONS`; file names aren't empty
+pub record SpellsRun (words : List (List ℕ)) (run : Run) : Type 0 where
+  pub source : List ℕ
+  pub order : List ℕ
+  pub schedulers : List ℕ
+  pub reductions : List ℕ
+  pub words_are : words ≡ codes "run" ∷ source ∷ order ∷ schedulers ∷ reductions ∷ []
+  pub source_some : 0 < length source
+  pub order_some : 0 < length order
+  pub schedulers_are : SpellsNumber schedulers 1 64 run.schedulers
+  pub reductions_are : SpellsNumber reductions 1 4_000_000 run.reductions
+
+-- the words of a command
+abbrev pub Spells : List (List ℕ) → Command → Type 0
+Spells words (c.Run run) = SpellsRun words run

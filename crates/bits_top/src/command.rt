@@ -1,0 +1,66 @@
+// The words of a command line.
+ghost use Rattle.std.specs.Prelude.{◌≡◌, ◌≤◌, ◌<◌, ℕ, List, map, string_bytes, MatchOption};
+ghost use Rattle.bits_top.specs.Command.{Spells, SpellsNumber, SpellsRun};
+ghost use Rattle.bits_top.specs.declared.command.Command.{Command};
+ghost use Rattle.bits_top.specs.declared.command.Run.{Run};
+
+use itoa::Buffer;
+
+// What the words ask for.
+#[derive(Clone, Copy, Debug, PartialEq, Eq)]
+pub(crate) enum Command {
+    Run(Run),
+}
+
+// `run MODULE ORDER SCHEDULERS REDUCTIONS`
+#[derive(Clone, Copy, Debug, PartialEq, Eq)]
+pub(crate) struct Run {
+    pub schedulers: u32,
+    pub reductions: u32,
+}
+
+// The number that a word spells in the range, if it spells one.
+fn number(word: &str, low: u32, high: u32) -> Option<u32>
+    ensures { MatchOption result ((n : ℕ) → SpellsNumber word.now low high n → ⊥) (λ n. SpellsNumber word.now low high n) }
+{
+    let Ok(n) = word.parse::<u32>() else {
+        return None;
+    };
+    let mut buffer = Buffer::new();
+    if n < low || high < n || buffer.format(n) != word {
+        return None;
+    }
+    Some(n)
+}
+
+// The run that the words ask for, if they do.
+fn run_of(words: &[String]) -> Option<Run>
+    ensures { MatchOption result ((run : Run) → SpellsRun (map string_bytes words.now) run → ⊥) (λ run. SpellsRun (map string_bytes words.now) run) }
+{
+    let [name, module, order, schedulers, reductions] = words else {
+        return None;
+    };
+    if name.as_str() != "run" || module.is_empty() || order.is_empty() {
+        return None;
+    }
+    let Some(schedulers) = number(schedulers.as_str(), 1, 64) else {
+        return None;
+    };
+    let Some(reductions) = number(reductions.as_str(), 1, 4_000_000) else {
+        return None;
+    };
+    Some(Run {
+        schedulers,
+        reductions,
+    })
+}
+
+// The command that the words spell, if they spell one.
+pub(crate) fn command_of(words: &[String]) -> Option<Command>
+    ensures { MatchOption result ((command : Command) → Spells (map string_bytes words.now) command → ⊥) (λ command. Spells (map string_bytes words.now) command) }
+{
+    let Some(run) = run_of(words) else {
+        return None;
+    };
+    Some(Command::Run(run))
+}

@@ -1,0 +1,5 @@
+pub mod BitLists
+pub mod Gathered
+pub mod Written
+pub mod Residues
+pub mod Little
