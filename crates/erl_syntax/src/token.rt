@@ -235,8 +235,7 @@ pub const MARKS: [TokenKind; 39] = [
 /// Of the marks with which a text begins, the first of `MARKS` is a longest one.
 pub fn longest_mark_first()
     ensures { (bs : List ℕ) (kind : TokenKind) → find (begins_with bs) MARKS ≡ Some kind → All (λ other. begins_with bs other ≡ true → length (spelling other) ≤ length (spelling kind)) MARKS }
-{
-}
+{}
 
 impl TokenKind {
     /// The characters of a reserved word or a mark. The other kinds have many spellings, and give no characters here.

@@ -25,7 +25,7 @@ found_by : (p q : TokenKind → Bool) (kind : TokenKind) (kinds : List TokenKind
 found_by p q kind kinds true e h r = rw e (e, h)
 found_by p q kind kinds false e h r = rw e r
 
-found : (p q : TokenKind → Bool) (kinds : List TokenKind) → list_all q kinds ≡ true → IfSome (find p kinds) (λ k. (p k ≡ true) × (q k ≡ true))
+pub found : (p q : TokenKind → Bool) (kinds : List TokenKind) → list_all q kinds ≡ true → IfSome (find p kinds) (λ k. (p k ≡ true) × (q k ≡ true))
 found p q [] a = tt
 found p q (kind ∷ kinds) a = found_by p q kind kinds (p kind) refl (and_left (q kind) (list_all q kinds) a) (found p q kinds (and_right (q kind) (list_all q kinds) a))
 

@@ -5,3 +5,6 @@ pub mod FoundMark
 pub mod Placed
 pub mod Cut
 pub mod OneReading
+pub mod IntegerTokens
+pub mod IntegerValues
+pub mod AllValues

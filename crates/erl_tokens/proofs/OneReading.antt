@@ -7,7 +7,7 @@ use Rattle.erl_syntax.specs.declared.token.LexCause.{LexCause}
 use Rattle.erl_syntax.specs.declared.token.LexCause.TheVariants as why
 use Rattle.erl_syntax.specs.declared.token.Piece.{Piece}
 use Rattle.erl_syntax.specs.declared.token.Piece.TheVariants as p
-use Rattle.erl_syntax.specs.Tokens.{piece, place, Lexes, LexesFrom, ends, stops, skips, finds, refuses}
+use Rattle.erl_syntax.specs.Tokens.{piece, place, LexesFrom, ends, stops, skips, finds, refuses}
 
 true_is_false : (b : Bool) → b ≡ true → b ≡ false → ⊥
 true_is_false b e f = cc

@@ -2,6 +2,7 @@ ghost use Rattle.std.specs.Prelude.{◌≡◌, ◌<◌, ◌≤◌, ◌+◌, ◌^
 ghost use Rattle.std.specs.Str.Lossy.{utf8_valid_len};
 ghost use Rattle.erl_syntax.specs.Tokens.{Lexes, LexesFrom, front, is_cut};
 ghost use Rattle.erl_tokens.specs.Cutting.{IsFault};
+ghost use Rattle.erl_tokens.specs.Values.{AllIntegers};
 ghost use Rattle.erl_syntax.specs.declared.token.Token.{Token};
 ghost use Rattle.erl_syntax.specs.declared.token.LexFault.{LexFault};
 
@@ -28,6 +29,7 @@ fn front(text: &[u8]) -> &[u8]
 pub fn tokens(alloc: Global, text: &[u8]) -> Result<Vec<Token>, LexFault>
     requires { length text.now ≤ 1048576 }
     ensures tokens { IfOk result (λ v. Lexes text.now v.items None) }
+    ensures integers { IfOk result (λ v. AllIntegers text.now v.items) }
     ensures fault { IfErr result (λ fault. IsFault text.now fault) }
 {
     let front = front(text);
@@ -70,5 +72,4 @@ pub fn tokens(alloc: Global, text: &[u8]) -> Result<Vec<Token>, LexFault>
 /// A text has one list of tokens, up to its end or to its first fault.
 pub fn one_reading()
     ensures { (text : List ℕ) (s t : List Token) (f g : Option LexFault) → Lexes text s f → Lexes text t g → (s ≡ t) × (f ≡ g) }
-{
-}
+{}

@@ -1,6 +1,6 @@
 use crate::{
-    LexCause, Token, TokenKind, atom_text, character_number, integer_value, string_characters,
-    tokens,
+    LexCause, Token, TokenKind, atom_text, character_number, integer_value, one_reading,
+    string_characters, tokens,
 };
 use erl_syntax::{MARKS, RESERVED, Span};
 use std::alloc::Global;
@@ -276,6 +276,7 @@ fn spans_and_slices_of_a_module(rt: HostRuntime) -> Result<(), Fail> {
             to: 104
         }
     );
+    one_reading();
     let lines = cut(alloc, b"\"a\n\xC3\xA9\" b % c\nd")?;
     assert_eq!(rt; lines[1].span, Span { line: 2, column: 4 });
     assert_eq!(rt; lines[2].span, Span { line: 3, column: 1 });

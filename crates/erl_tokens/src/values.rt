@@ -1,7 +1,7 @@
-ghost use Rattle.std.specs.Prelude.{◌≡◌, ◌≤◌, ◌++◌, pos, OnOk, string_bytes, IfOk, IfSome, IfNone, MatchOption, ◌<◌, ◌^◌};
+ghost use Rattle.std.specs.Prelude.{◌≡◌, ◌≤◌, ◌++◌, pos, OnOk, string_bytes, IfOk, IfSome, IsSome, MatchOption, ◌<◌, ◌^◌};
 ghost use Rattle.std.specs.Char.{encode_utf8};
 ghost use Rattle.erl_syntax.specs.Characters.{integer_value, character_number, string_characters, atom_text, as_scalar, number};
-ghost use Rattle.erl_tokens.specs.Values.{IsNoInteger};
+ghost use Rattle.erl_tokens.specs.Values.{IsInteger};
 
 use crate::characters::{digit_run, is_at, number};
 use crate::integers::base_of;
@@ -12,7 +12,7 @@ use std::alloc::{AllocError, Global};
 /// The value of the bytes of an integer token, which is below 2^127.
 pub fn integer_value(token: &[u8]) -> Option<i128>
     ensures value { IfSome result (λ v. v ≡ pos (integer_value token.now)) }
-    ensures none { IfNone result (IsNoInteger token.now) }
+    ensures succeeds { IsInteger token.now → IsSome result }
 {
     if token.is_empty() {
         return Some(0);

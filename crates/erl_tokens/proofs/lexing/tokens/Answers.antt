@@ -2,6 +2,7 @@ use Rattle.std.proofs.Common.{arith, rules, ap, inr}
 use Rattle.std.proofs.lemmas.List.{take_rest}
 use Rattle.erl_tokens.proofs.Placed.{place_next}
 use Rattle.erl_tokens.proofs.Cut.{skip_step, find_step, fault_step, cut_step, end_step, lexes_text, moved, take_within}
+use Rattle.erl_tokens.proofs.AllValues.{text_integers}
 use Rattle.erl_tokens.proofs.lexing.tokens.Goals as goal
 use Rattle.erl_tokens.proofs.lexing.tokens.Goals.{in-Blank, in-Token+in_ok-push-in-Token}
 
@@ -28,6 +29,12 @@ pub returns-clause-tokens : goal.returns-clause-tokens
 returns-clause-tokens c =
     lexes_text c.args.text.now c.front-front.result.now _ _ c.front-front.ensures
     (end_step c.front-front.result.now _ c.loop-at.at _ c.loop-at.invariant.within (omega arith) (search rules) c.loop-at.invariant.found)
+
+pub returns-clause-integers : goal.returns-clause-integers
+returns-clause-integers c =
+    text_integers c.args.text.now _
+    (lexes_text c.args.text.now c.front-front.result.now _ _ c.front-front.ensures
+    (end_step c.front-front.result.now _ c.loop-at.at _ c.loop-at.invariant.within (omega arith) (search rules) c.loop-at.invariant.found))
 
 pub loop-at-preserved : goal.loop-at-preserved
 loop-at-preserved c =
