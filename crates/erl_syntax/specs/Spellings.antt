@@ -1,5 +1,5 @@
 -- The reserved words and the marks (Reference Manual, "Expressions" and "Reserved Words").
-use Rattle.std.specs.Prelude.{ℕ, Bool, ◌&&◌, ◌==◌, if◌then◌else◌, List, [], ◌∷◌, length, Option, Some, None, codes}
+use Rattle.std.specs.Prelude.{ℕ, Bool, ◌&&◌, ◌==◌, List, [], length, codes}
 use Rattle.std.specs.List.{starts_with}
 use Rattle.erl_syntax.specs.declared.token.TokenKind.{TokenKind}
 use Rattle.erl_syntax.specs.declared.token.TokenKind.TheVariants as k
