@@ -1,6 +1,6 @@
 use crate::{
-    LexCause, Token, TokenKind, atom_text, character_number, integer_value, one_reading,
-    string_characters, tokens,
+    LexCause, Token, TokenKind, atom_text, character_number, integer_value, longest_token,
+    one_reading, string_characters, tokens,
 };
 use erl_syntax::{MARKS, RESERVED, Span};
 use std::alloc::Global;
@@ -274,6 +274,7 @@ fn spans_and_slices_of_a_module(rt: HostRuntime) -> Result<(), Fail> {
     };
     assert_eq!(rt; found.last().copied(), Some(full_stop));
     one_reading();
+    longest_token();
     let lines = cut(alloc, b"\"a\n\xC3\xA9\" b % c\nd")?;
     let lines: Vec<Span> = lines.iter().map(|token| token.span).collect(alloc)?;
     let places = [
