@@ -2,4 +2,4 @@
 #![tactic(auto)]
 
 mod form;
-
+mod reader;
