@@ -1,2 +1,4 @@
 pub mod Bits
 pub mod Number
+pub mod Parts
+pub mod Ledger
