@@ -9,3 +9,4 @@ pub mod Wide
 pub mod Spellings
 pub mod Orders
 pub mod Copied
+pub mod AllBits

@@ -181,12 +181,12 @@ fn bits_are_copied_and_no_others_change(rt: HostRuntime) {
 
 #[test]
 fn bitstrings_are_ordered_bit_by_bit(rt: HostRuntime) {
-    let bytes = [0x12u8, 0x34, 0x12, 0x34, 0x13];
+    let bytes = [0x12u8, 0x34, 0x12, 0x34, 0x13, 0];
     let rows = [
         (0u32, 8u32, 0u32, 8u32, Ordering::Equal),
         (0, 16, 16, 16, Ordering::Equal),
-        (0, 24, 16, 21, Ordering::Less),
-        (16, 24, 0, 20, Ordering::Greater),
+        (0, 24, 16, 24, Ordering::Less),
+        (16, 24, 0, 24, Ordering::Greater),
         (0, 15, 16, 16, Ordering::Less),
         (0, 16, 16, 9, Ordering::Greater),
         (3, 0, 5, 0, Ordering::Equal),
@@ -195,7 +195,7 @@ fn bitstrings_are_ordered_bit_by_bit(rt: HostRuntime) {
         (3, 1, 0, 21, Ordering::Greater),
     ];
     for (at, len, other, other_len, want) in rows {
-        assert!(rt; at <= 16 && len <= 24 && other <= 19 && other_len <= 21);
+        assert!(rt; at <= 16 && len <= 24 && other <= 19 && other_len <= 24);
         assert!(rt;
             order(
                 Bits::of(&bytes, at, len),
