@@ -1,0 +1,10 @@
+pub mod Numbers
+pub mod ByFirst
+pub mod Spelled
+pub mod FoundMark
+pub mod Placed
+pub mod Cut
+pub mod OneReading
+pub mod IntegerTokens
+pub mod IntegerValues
+pub mod AllValues

@@ -1,0 +1,9 @@
+use Rattle.std.proofs.Common.{◌≡◌, ◌-◌, ◌≤◌, ◌++◌, length, drop}
+use Rattle.erl_syntax.specs.Characters.{spelled}
+use Rattle.erl_tokens.proofs.values.string_characters.Given as goal
+
+abbrev pub invariant-loop-at : goal.invariant-loop-at
+invariant-loop-at l = record { within : l.at ≤ length l.bs; so_far : spelled l.bs ≡ l.characters.items ++ spelled (drop l.at l.bs) }
+
+abbrev pub decreases-loop-at : goal.decreases-loop-at
+decreases-loop-at l = length l.bs - l.at

@@ -1,0 +1,75 @@
+ghost use Rattle.std.specs.Prelude.{◌≡◌, ◌<◌, ◌≤◌, ◌+◌, ◌^◌, length, take, IfOk, IfErr, None, ℕ, List, Option};
+ghost use Rattle.std.specs.Str.Lossy.{utf8_valid_len};
+ghost use Rattle.erl_syntax.specs.Tokens.{Lexes, LexesFrom, front, is_cut};
+ghost use Rattle.erl_tokens.specs.Cutting.{IsFault};
+ghost use Rattle.erl_tokens.specs.Values.{AllIntegers};
+ghost use Rattle.erl_syntax.specs.declared.token.Token.{Token};
+ghost use Rattle.erl_syntax.specs.declared.token.LexFault.{LexFault};
+
+use crate::pieces::front_piece;
+use crate::spans::place_after;
+use erl_syntax::{LexCause, LexFault, Piece, Span, Token};
+use std::alloc::Global;
+
+/// The bytes before the first that belongs to no character of UTF-8.
+fn front(text: &[u8]) -> &[u8]
+    ensures { result.now ≡ front text.now }
+{
+    match str::from_utf8(text) {
+        Ok(_) => text,
+        Err(error) => &text[..error.valid_up_to()],
+    }
+}
+
+/// The tokens of a text of at most 1,048,576 bytes.
+///
+/// # Errors
+///
+/// The text's first fault, with its place and cause, or that memory ran out.
+pub fn tokens(alloc: Global, text: &[u8]) -> Result<Vec<Token>, LexFault>
+    requires { length text.now ≤ 1048576 }
+    ensures tokens { IfOk result (λ v. Lexes text.now v.items None) }
+    ensures integers { IfOk result (λ v. AllIntegers text.now v.items) }
+    ensures fault { IfErr result (λ fault. IsFault text.now fault) }
+{
+    let front = front(text);
+    let cut = front.len() < text.len();
+    let mut tokens = Vec::new(alloc);
+    let mut span = Span { line: 1, column: 1 };
+    let mut at = 0;
+    while at < front.len() {
+        let rest = &front[at..];
+        let len = match front_piece(rest, cut) {
+            Piece::Blank(len) => len,
+            Piece::Token(kind, len) => {
+                tokens.push(Token {
+                    kind,
+                    span,
+                    from: at as u32,
+                    to: (at + len) as u32,
+                })?;
+                len
+            }
+            Piece::Fault(why, ahead) => {
+                return Err(LexFault {
+                    at: place_after(&rest[..ahead], span),
+                    why,
+                });
+            }
+        };
+        span = place_after(&rest[..len], span);
+        at += len;
+    }
+    if cut {
+        return Err(LexFault {
+            at: span,
+            why: LexCause::NotUtf8,
+        });
+    }
+    Ok(tokens)
+}
+
+/// A text has one list of tokens, up to its end or to its first fault.
+pub fn one_reading()
+    ensures { (text : List ℕ) (s t : List Token) (f g : Option LexFault) → Lexes text s f → Lexes text t g → (s ≡ t) × (f ≡ g) }
+{}

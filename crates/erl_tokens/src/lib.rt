@@ -1,0 +1,20 @@
+//! Cuts the text of a module into tokens, and reads what a token stands for.
+#![tactic(auto)]
+
+mod characters;
+mod escapes;
+mod integers;
+mod lexing;
+mod marks;
+mod names;
+mod pieces;
+mod quotes;
+mod spans;
+mod values;
+
+pub use erl_syntax::{LexCause, LexFault, Token, TokenKind};
+pub use lexing::{one_reading, tokens};
+pub use values::{atom_text, character_number, integer_value, string_characters};
+
+#[cfg(test)]
+mod tests;
