@@ -1,6 +1,10 @@
+pub mod Answers
 pub mod Binding
 pub mod Ended
 pub mod Goes
+pub mod ReadingItems
 pub mod Runs
+pub mod Sizes
+pub mod Spelling
 pub mod Words
 pub mod Written

@@ -1,11 +1,13 @@
+pub mod Answer
 pub mod Asks
 pub mod Body
 pub mod Command
 pub mod Form
 pub mod Local
 pub mod Machine
-pub mod Stream
+pub mod Reading
 pub mod Runs
+pub mod Stream
 pub mod Texts
 pub mod Tree
 pub mod Value

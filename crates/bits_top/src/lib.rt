@@ -5,9 +5,15 @@ mod command;
 mod entry;
 mod form;
 mod matching;
+mod program;
+mod reader;
 mod run;
 mod status;
 mod streams;
 mod texts;
 
+pub use program::top;
 pub use status::Status;
+
+#[cfg(test)]
+mod tests;

@@ -36,6 +36,9 @@ part-bit_list bytes off len o n h =
     get_or-bit_list bytes (off + o) n k d hk' ∙ ap (bit_in bytes) s
     ∙ sym (get_or-take n (drop o whole) k d hk' ∙ get_or-drop o whole k d ∙ get_or-bit_list bytes off len (o + k) d (omega arith)))
 
+pub front-bit_list : (bytes : List ℕ) (off len n : ℕ) → n ≤ len → bit_list bytes off n ≡ take n (bit_list bytes off len)
+front-bit_list bytes off len n h = let e : off ≡ off + 0 = omega arith in ap (λ k. bit_list bytes k n) e ∙ part-bit_list bytes off len 0 n (omega arith)
+
 append_place : (bytes : List ℕ) (off m n k : ℕ) (d : Bool) → k < m + n → bit_in bytes (off + k) ≡ get_or (bit_list bytes off m ++ bit_list bytes (off + m) n) k d
 append_place bytes off m n k d h =
     let la : length (bit_list bytes off m) ≡ m = length-bit_list bytes off m in

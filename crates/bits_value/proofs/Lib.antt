@@ -3,3 +3,10 @@ pub mod Gathered
 pub mod Written
 pub mod Residues
 pub mod Little
+pub mod Fills
+pub mod Values
+pub mod Wide
+pub mod Spellings
+pub mod Orders
+pub mod Copied
+pub mod AllBits

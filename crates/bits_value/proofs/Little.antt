@@ -57,6 +57,16 @@ little_step k xs ys l h =
     ∙ (natural-append (reversed_groups (length ys / 8) ys) (reversed_groups k xs)
     ∙ rw (one_group ys h, n, p) refl))
 
+-- whole groups of eight bits, and others after them
+pub reordered-append : (k : ℕ) (xs ys : List Bool) → length xs ≡ 8 * k → reordered (xs ++ ys) ≡ reordered ys ++ reordered xs
+unfolding reordered
+reordered-append k xs ys l =
+    let a = length-append xs ys in
+    let q : length (xs ++ ys) / 8 ≡ k + length ys / 8 = omega arith in
+    let p : length xs / 8 ≡ k = omega arith in
+    ap (λ (j : ℕ). reversed_groups j (xs ++ ys)) q ∙ reversed_groups-append k (length ys / 8) xs ys l
+    ∙ ap (λ (j : ℕ). reversed_groups (length ys / 8) ys ++ reversed_groups j xs) (sym p)
+
 -- ---- spellings
 pub length-little_groups : (k n v : ℕ) → 8 * k ≤ n → length (little_groups k n v) ≡ n
 length-little_groups zero n v h = length-big_bits n v

@@ -12,7 +12,7 @@ use Rattle.std.proofs.lemmas.List.FromFn.{get_or-map-range_with_len}
 use Rattle.bits_value.proofs.Gathered.{masked}
 use Rattle.bits_value.specs.Bits.{bit_of, bit_in, bit_list, all_bits}
 use Rattle.bits_value.specs.Number.{big_bits, natural}
-use Rattle.bits_value.proofs.BitLists.{length-bit_list, get_or-bit_list, length-big_bits, big_bits-append, big_bits-mod, big_bits-natural, bit_list-append, part-bit_list}
+use Rattle.bits_value.proofs.BitLists.{length-bit_list, get_or-bit_list, length-big_bits, big_bits-append, big_bits-mod, big_bits-natural, bit_list-append, part-bit_list, front-bit_list}
 
 pub length-all_bits : (bytes : List ℕ) → length (all_bits bytes) ≡ 8 * length bytes
 unfolding all_bits
@@ -23,16 +23,16 @@ unfolding all_bits
 get_or-all_bits bytes i d h = get_or-bit_list bytes 0 (8 * length bytes) i d h ∙ ap (bit_in bytes) (zero-add i)
 
 -- the three parts of a paste
-paste_is : (xs : List Bool) (at : ℕ) (s : List Bool) (n : ℕ) → n ≡ length s → paste xs at s n ≡ take at xs ++ (s ++ drop (at + n) xs)
+paste_is : {X : Type 0} (xs : List X) (at : ℕ) (s : List X) (n : ℕ) → n ≡ length s → paste xs at s n ≡ take at xs ++ (s ++ drop (at + n) xs)
 paste_is xs at s n l = paste_all xs at s n l
 
-pub get_or-paste_in : (xs : List Bool) (at : ℕ) (s : List Bool) (n i : ℕ) (d : Bool) → n ≡ length s → at ≤ length xs → at ≤ i → i < at + n → get_or (paste xs at s n) i d ≡ get_or s (i - at) d
+pub get_or-paste_in : {X : Type 0} (xs : List X) (at : ℕ) (s : List X) (n i : ℕ) (d : X) → n ≡ length s → at ≤ length xs → at ≤ i → i < at + n → get_or (paste xs at s n) i d ≡ get_or s (i - at) d
 get_or-paste_in xs at s n i d l h a b =
     let lt : length (take at xs) ≡ at = length-take-le at xs h in
     rw (paste_is xs at s n l) (get_or-append_right (take at xs) (s ++ drop (at + n) xs) at i d lt a
     ∙ get_or_append_left s (drop (at + n) xs) d (i - at) (omega arith))
 
-pub get_or-paste_out : (xs : List Bool) (at : ℕ) (s : List Bool) (n i : ℕ) (d : Bool) → n ≡ length s → at + n ≤ length xs → (i < at) ⊎ (at + n ≤ i) → get_or (paste xs at s n) i d ≡ get_or xs i d
+pub get_or-paste_out : {X : Type 0} (xs : List X) (at : ℕ) (s : List X) (n i : ℕ) (d : X) → n ≡ length s → at + n ≤ length xs → (i < at) ⊎ (at + n ≤ i) → get_or (paste xs at s n) i d ≡ get_or xs i d
 get_or-paste_out xs at s n i d l h (inl a) =
     let lt : length (take at xs) ≡ at = length-take-le at xs (omega arith) in
     rw (paste_is xs at s n l) (get_or_append_left (take at xs) (s ++ drop (at + n) xs) d i (omega arith) ∙ get_or-take at xs i d a)
@@ -201,3 +201,7 @@ own_kept old new off from done at n h inside e =
     let c : get_or (all_bits new) (at + i) d ≡ get_or (all_bits old) (at + i) d
     = ap (λ (w : List Bool). get_or w (at + i) d) e ∙ get_or-paste_out (all_bits old) off (bit_list old from done) done (at + i) d ls (omega arith) (inl (omega arith)) in
     a ∙ sym b ∙ c ∙ get_or-all_bits old (at + i) d (omega arith) ∙ sym (get_or-bit_list old at n i d k))
+
+pub bit_list-front : (bytes : List ℕ) (n : ℕ) → n ≤ 8 * length bytes → bit_list bytes 0 n ≡ take n (all_bits bytes)
+unfolding all_bits
+bit_list-front bytes n h = front-bit_list bytes 0 (8 * length bytes) n h

@@ -1,2 +1,5 @@
 pub mod Bits
 pub mod Number
+pub mod Parts
+pub mod Ledger
+pub mod Utf

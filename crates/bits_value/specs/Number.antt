@@ -1,5 +1,5 @@
 -- The numbers that bits spell (Erlang reference manual, "Bit Syntax Expressions", integer segments).
-use Rattle.std.specs.Prelude.{ℕ, ◌+◌, ◌-◌, ◌*◌, ◌/◌, ◌%◌, ◌^◌, Bool, cond, List, [], ◌∷◌, ◌++◌, length, map, take, drop, zero, suc, ℤ, pos, negsuc, ◌-ℤ◌, Option, Some, None, nat_lt}
+use Rattle.std.specs.Prelude.{ℕ, ◌+◌, ◌-◌, ◌*◌, ◌/◌, ◌%◌, ◌^◌, ◌<◌, ◌≤◌, Bool, cond, List, [], ◌∷◌, ◌++◌, length, map, take, drop, zero, suc, ℤ, pos, negsuc, ◌-ℤ◌, Option, Some, None, nat_lt}
 use Rattle.std.specs.List.{range_with_len}
 use Rattle.bits_value.specs.Bits.{bit_of}
 use Rattle.bits_value.specs.declared.Sign.{Sign}
@@ -67,3 +67,10 @@ spell n v Little = little_bits n (residue n v)
 abbrev pub bounded : ℤ → Option ℤ
 bounded (pos v) = cond (nat_lt v (2 ^ 127)) (Some (pos v)) None
 bounded (negsuc v) = cond (nat_lt v (2 ^ 127)) (Some (negsuc v)) None
+
+-- whether an integer is within `n` bits: 0 to 2^n - 1, or -2^(n-1) to 2^(n-1) - 1, and only 0 in no bits
+abbrev pub InBits : Sign → ℕ → ℤ → Type 0
+InBits Unsigned n (pos v) = v < 2 ^ n
+InBits Unsigned n (negsuc v) = ⊥
+InBits Signed n (pos v) = 2 * v < 2 ^ n
+InBits Signed n (negsuc v) = 2 * (v + 1) ≤ 2 ^ n

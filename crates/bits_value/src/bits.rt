@@ -1,8 +1,14 @@
-ghost use Rattle.std.specs.Prelude.{◌≡◌, ◌+◌, ◌*◌, ◌<◌, ◌≤◌, ◌^◌, pos, length, slice_index_or, take, drop, false};
-ghost use Rattle.bits_value.specs.Bits.{bit_list};
-ghost use Rattle.bits_value.specs.Number.{natural, bounded};
+ghost use Rattle.std.specs.Prelude.{◌≡◌, ◌+◌, ◌*◌, ◌<◌, ◌≤◌, ◌^◌, ◌++◌, ◌↔◌, IsTrue, pos, length, slice_index_or, take, drop, false};
+ghost use Rattle.std.specs.Ordering.{bool_cmp};
+ghost use Rattle.std.specs.Cmp.Lexicographic.{slice_cmp};
+ghost use Rattle.bits_value.specs.Bits.{bit_list, all_bits};
+ghost use Rattle.bits_value.specs.Number.{natural, number, bounded};
 
-use crate::reading::bounded_natural;
+use crate::copying::copy;
+use crate::numbers::bounded_number;
+use crate::ordering::order_runs;
+use crate::{Endian, Sign};
+use std::cmp::Ordering;
 use std::marker::Model;
 
 /// A borrowed list of bits: some bits of a slice of bytes, of any offset and length.
@@ -72,6 +78,54 @@ impl<'a> Bits<'a> {
         requires inside { off + bits ≤ length self.now }
         ensures { result ≡ bounded (pos (natural (take bits (drop off self.now)))) }
     {
-        bounded_natural(self.bytes, self.off + off as usize, bits as usize)
+        self.int(off, bits, Sign::Unsigned, Endian::Big)
     }
+
+    /// The number of the `bits` bits from `off` on; None exactly where it is outside -2^127 to 2^127 - 1.
+    pub fn int(&self, off: u32, bits: u32, sign: Sign, endian: Endian) -> Option<i128>
+        requires inside { off + bits ≤ length self.now }
+        ensures { result ≡ bounded (number (take bits (drop off self.now)) sign endian) }
+    {
+        bounded_number(
+            self.bytes,
+            self.off + off as usize,
+            bits as usize,
+            sign,
+            endian,
+        )
+    }
+
+    /// Whether the `bits` bits from `off` on, of any length, have this number.
+    pub fn same_number(&self, off: u32, bits: u32, sign: Sign, endian: Endian, value: i128) -> bool
+        requires inside { off + bits ≤ length self.now }
+        ensures { IsTrue result ↔ number (take bits (drop off self.now)) sign endian ≡ value }
+    {
+        match self.int(off, bits, sign, endian) {
+            Some(found) => found == value,
+            None => false,
+        }
+    }
+}
+
+/// The order of two bitstrings: that of their first bits that differ, else a prefix is smaller
+/// (Erlang reference manual, "Expressions", term comparisons: bit by bit).
+pub fn order(left: Bits<'_>, right: Bits<'_>) -> Ordering
+    ensures { result ≡ slice_cmp bool_cmp left.entry right.entry }
+{
+    let shared = left.len.min(right.len) as usize;
+    order_runs(left.bytes, left.off, right.bytes, right.off, shared).then(left.len.cmp(&right.len))
+}
+
+/// Copies the source's bits to bit `off`, and leaves all other bits.
+pub fn copy_bits(target: &mut [u8], off: u32, source: Bits<'_>)
+    requires inside { off + length source ≤ 8 * length target.old }
+    ensures { all_bits target.new ≡ take off (all_bits target.old) ++ (source.entry ++ drop (off + length source.entry) (all_bits target.old)) }
+{
+    copy(
+        target,
+        off as usize,
+        source.bytes,
+        source.off,
+        source.len as usize,
+    );
 }

@@ -4,10 +4,22 @@
 #![tactic(auto)]
 
 mod bits;
+mod copying;
+mod frozen;
+mod laws;
+mod numbers;
+mod ordering;
 mod reading;
+mod small;
+mod steps;
 mod writing;
 
-pub use bits::Bits;
+pub use bits::{Bits, copy_bits, order};
+pub use copying::copy_own;
+pub use frozen::Frozen;
+pub use laws::{number_reads_back, one_spelling};
+pub use small::SmallBits;
+pub use steps::Steps;
 pub use writing::put;
 
 #[cfg(test)]

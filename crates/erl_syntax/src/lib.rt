@@ -1,12 +1,24 @@
 //! The syntax of modules: places in a text, texts, lists and trees, which all layers above share.
 #![tactic(auto)]
 
+mod clause;
+mod expr;
 mod listed;
+mod module;
+mod pattern;
+mod qual;
+mod segment;
 mod span;
 mod text;
 mod token;
 
+pub use clause::{Alt, Branch, Guard, Item};
+pub use expr::{Expr, Op, Prefix};
 pub use listed::Listed;
+pub use module::{Clause, Function, Head, Module, Name};
+pub use pattern::Pattern;
+pub use qual::Qual;
+pub use segment::{Segment, Spec};
 pub use span::Span;
 pub use text::Text;
 pub use token::{LexCause, LexFault, MARKS, Piece, RESERVED, Token, TokenKind, longest_mark_first};

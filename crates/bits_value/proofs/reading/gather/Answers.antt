@@ -1,14 +1,11 @@
-use Rattle.std.proofs.Common.{refl, arith}
+use Rattle.std.proofs.Common.{◌≡◌, ◌+◌, ◌-◌, ap, ◌∙◌, arith}
 use Rattle.bits_value.specs.Bits.{bit_list}
+use Rattle.bits_value.specs.Number.{natural}
 use Rattle.bits_value.proofs.Gathered.{gather_step}
 use Rattle.bits_value.proofs.reading.gather.Goals as goal
 
-pub loop-done-init : goal.loop-done-init
-unfolding bit_list
-loop-done-init c = record { within = omega arith; sum_is = refl }
-
-pub loop-done-preserved : goal.loop-done-preserved
-loop-done-preserved c = record {
-  within = omega arith;
-  sum_is = rw (c.loop-done.invariant.sum_is, c.window.ensures) (gather_step c.args.bytes.now c.args.start c.loop-done.done c.reach-step.result (omega arith));
-}
+pub returns : goal.returns
+returns c =
+    let high = c.args.count - c.min-low.result in
+    let whole : high + c.min-low.result ≡ c.args.count = omega arith in
+    rw (c.chunk.ensures, c.chunk-2.ensures) (gather_step c.args.bytes.now c.args.start high c.min-low.result 128 (omega arith) ∙ ap (λ n. natural (bit_list c.args.bytes.now c.args.start n)) whole)

@@ -1,0 +1,139 @@
+-- From what was read, run and written to the answer of a command.
+use Rattle.std.proofs.Common.{◌≡◌, ◌⊎◌, ℕ, ℤ, ◌+◌, ◌*◌, ◌≤◌, ◌<◌, ◌^◌, List, [], ◌∷◌, ◌++◌, length, Option, Some, None, IfSome, refl, ap, sym, ◌∙◌, inl, inr, arith, codes, decimal, append-nil, length-append, map, All, subst}
+use Rattle.std.specs.List.{flat_map}
+use Rattle.std.specs.Fmt.{signed_decimal}
+use Rattle.std.proofs.lemmas.Fmt.{decimal_injective}
+use Rattle.std.proofs.lemmas.List.Folds.{flat_map-map}
+use Rattle.std.specs.Io.KnownBytes.{Consumes, IsAtEnd}
+use Rattle.bits_top.specs.Answer.{Port, Held, Faulted, Untouched, IsAccepted, IsTooLong, IsNotBuilt, IsRefusedWith, IsRun, AnswersRefusal, AnswersAccepted, AnswersRun, IsSmooth, IsSmoothRefusal, IsDoneOrNoMemory, IsRefusedOrNoMemory, text_limit}
+use Rattle.bits_top.specs.Command.{Spells, SpellsRun}
+use Rattle.bits_top.specs.declared.command.Command.{Command}
+use Rattle.bits_top.specs.declared.command.Command.TheVariants as made
+use Rattle.bits_top.specs.Form.{IsForm}
+use Rattle.bits_top.specs.Machine.{Left, Machine, IsComplete, AllGone}
+use Rattle.bits_top.specs.Runs.{HasRun, start, with_one, end_of}
+use Rattle.bits_top.specs.Texts.{order_text, processes_text, machine_text}
+use Rattle.bits_top.specs.Value.{value_text, VInt}
+use Rattle.bits_top.specs.declared.command.Run.{Run}
+use Rattle.bits_top.specs.declared.form.Straight.{Straight}
+use Rattle.bits_top.specs.declared.run.Outcome.{Outcome}
+use Rattle.bits_top.specs.declared.status.Status.{Status}
+use Rattle.bits_top.specs.declared.status.Status.TheVariants.{Done, Refused, Usage, ReadFault, ReportFault, OrderFault, NoMemory, BadOrder}
+
+-- a whole run and its texts
+pub run_told : (s : Straight) (r : ℕ) (outcome : Outcome) (order report : List ℕ) → HasRun s r outcome → order ≡ order_text outcome.entries →
+    report ≡ flat_map (λ n. signed_decimal n ++ codes "\n") outcome.shown ++ processes_text 1 (Left (end_of outcome.ending) ∷ []) → IsRun s r order report
+run_told s r outcome order report h o t =
+    let lines : flat_map (λ v. value_text v ++ codes "\n") (map (λ n. VInt n) outcome.shown) ≡ flat_map (λ n. signed_decimal n ++ codes "\n") outcome.shown =
+        flat_map-map (λ v. value_text v ++ codes "\n") (λ n. VInt n) outcome.shown in
+    record {
+      entries = outcome.entries;
+      legal = h.legal;
+      complete = (let P : Machine → Type 0 = λ m. AllGone m.processes in subst P (sym h.state) (tt, tt));
+      ordered = o;
+      reported = t ∙ ap (λ l. l ++ processes_text 1 (Left (end_of outcome.ending) ∷ [])) (sym lines) ∙ ap machine_text (sym h.state);
+    }
+
+pub refusal_answers : (status : Status) (reductions : ℕ) (text line : List ℕ) (source report order : Port) → IsRefusedWith source text line → Untouched order →
+    AnswersRefusal status report line → AnswersRun reductions status source report order
+refusal_answers Refused reductions text line source report order read same h = record { text = text; line = line; read = read; reported = h; ordered = same }
+refusal_answers ReportFault reductions text line source report order read same h =
+    inr (record { text = text; line = line; read = read; ordered = same; fault = h.0; reported = h.1 })
+refusal_answers Done reductions text line source report order read same h = absurd h
+refusal_answers Usage reductions text line source report order read same h = h
+refusal_answers ReadFault reductions text line source report order read same h = absurd h
+refusal_answers OrderFault reductions text line source report order read same h = absurd h
+refusal_answers NoMemory reductions text line source report order read same h = tt
+refusal_answers BadOrder reductions text line source report order read same h = h
+
+pub accepted_answers : (status : Status) (reductions : ℕ) (text : List ℕ) (straight : Straight) (source report order : Port) → IsAccepted source text straight →
+    AnswersAccepted reductions straight status report order → AnswersRun reductions status source report order
+accepted_answers Done reductions text straight source report order read h =
+    record { text = text; straight = straight; read = read; order_text = h.order_text; report_text = h.report_text; run = h.run; ordered = h.ordered; reported = h.reported }
+accepted_answers OrderFault reductions text straight source report order read h =
+    record { text = text; straight = straight; read = read; order_text = h.order_text; report_text = h.report_text; run = h.run; fault = h.fault; ordered = h.ordered; reported = h.reported }
+accepted_answers ReportFault reductions text straight source report order read h =
+    inl (record { text = text; straight = straight; read = read; order_text = h.order_text; report_text = h.report_text; run = h.run; ordered = h.ordered; fault = h.fault; reported = h.reported })
+accepted_answers Refused reductions text straight source report order read h = absurd h
+accepted_answers Usage reductions text straight source report order read h = h
+accepted_answers ReadFault reductions text straight source report order read h = absurd h
+accepted_answers NoMemory reductions text straight source report order read h = tt
+accepted_answers BadOrder reductions text straight source report order read h = h
+
+-- what was read to the end is all that the source held
+pub held_whole : (before after : Option (List ℕ)) (bytes : List ℕ) → Consumes before after bytes → IsAtEnd after → IfSome before (λ held. held ≡ bytes)
+held_whole None after bytes h e = tt
+held_whole (Some xs) None bytes h e = absurd h
+held_whole (Some xs) (Some ys) bytes h e = h ∙ ap (λ l. bytes ++ l) e ∙ append-nil bytes
+
+-- a source that gave more than the limit held more
+pub held_long : (before after : Option (List ℕ)) (bytes : List ℕ) → Consumes before after bytes → text_limit < length bytes →
+    (text : List ℕ) × IfSome before (λ held. held ≡ text) × (text_limit < length text)
+held_long None after bytes h long = (bytes, tt, long)
+held_long (Some xs) None bytes h long = absurd h
+held_long (Some xs) (Some ys) bytes h long =
+    let l : length xs ≡ length bytes + length ys = ap length h ∙ length-append bytes ys in
+    (xs, refl, omega arith)
+
+-- words spell one command
+pub spelled_once : (words : List (List ℕ)) (command : Command) (run : Run) → Spells words command → SpellsRun words run → command ≡ made.Run run
+spelled_once words (made.Run asked) run h k =
+    let s : h.schedulers ≡ k.schedulers = cc (h.words_are, k.words_are) in
+    let r : h.reductions ≡ k.reductions = cc (h.words_are, k.words_are) in
+    let sd : decimal asked.schedulers ≡ decimal run.schedulers = cc (h.schedulers_are.spelled, k.schedulers_are.spelled) in
+    let rd : decimal asked.reductions ≡ decimal run.reductions = cc (h.reductions_are.spelled, k.reductions_are.spelled) in
+    let se : asked.schedulers ≡ run.schedulers = decimal_injective asked.schedulers run.schedulers (omega (arith, h.schedulers_are.at_most)) (omega (arith, k.schedulers_are.at_most)) sd in
+    let re : asked.reductions ≡ run.reductions = decimal_injective asked.reductions run.reductions (omega (arith, h.reductions_are.at_most)) (omega (arith, k.reductions_are.at_most)) rd in
+    let f : ℕ → ℕ → Run = λ x y. record { schedulers = x; reductions = y } in
+    ap made.Run (ap (λ x. f x asked.reductions) se ∙ ap (λ y. f run.schedulers y) re)
+
+-- where no count rises
+
+same_text : (before : Option (List ℕ)) (held text : List ℕ) → before ≡ Some text → IfSome before (λ x. x ≡ held) → text ≡ held
+same_text None held text e h = cc
+same_text (Some x) held text e h = cc
+
+refused_is : (source : Port) (held line text : List ℕ) → source.before ≡ Some text → IsRefusedWith source held line →
+    (text_limit < length text) ⊎ ((straight : Straight) → IsForm text straight → ⊥)
+refused_is source held line text told h = elim h [
+  | inl w ↦ (let e : text ≡ held = same_text source.before held text told w.held in inl (rw e w.long))
+  | inr w ↦ (let e : text ≡ held = same_text source.before held text told w.held in inr (rw e w.none))
+]
+
+not_both : (text : List ℕ) (straight : Straight) → length text ≤ text_limit → IsForm text straight → (text_limit < length text) ⊎ ((other : Straight) → IsForm text other → ⊥) → ⊥
+not_both text straight short form h = elim h [
+  | inl long ↦ omega (arith, long, short)
+  | inr none ↦ none straight form
+]
+
+pub smooth_done : (status : Status) (reductions : ℕ) (source report order : Port) → AnswersRun reductions status source report order → IsSmooth source report order → IsDoneOrNoMemory status
+smooth_done Done reductions source report order h s = inl refl
+smooth_done NoMemory reductions source report order h s = inr refl
+smooth_done Refused reductions source report order h s = absurd (not_both s.text s.straight s.short s.form (refused_is source h.text h.line s.text s.told h.read))
+smooth_done Usage reductions source report order h s = absurd h
+smooth_done ReadFault reductions source report order h s = absurd (s.well.source_well h.fault)
+smooth_done ReportFault reductions source report order h s = elim h [
+  | inl w ↦ absurd (s.well.report_well w.fault)
+  | inr w ↦ absurd (s.well.report_well w.fault)
+]
+smooth_done OrderFault reductions source report order h s = absurd (s.well.order_well h.fault)
+smooth_done BadOrder reductions source report order h s = absurd h
+
+accepted_not : (source : Port) (held text : List ℕ) (straight : Straight) → source.before ≡ Some text → IsAccepted source held straight →
+    (text_limit < length text) ⊎ ((other : Straight) → IsForm text other → ⊥) → ⊥
+accepted_not source held text straight told read h =
+    let e : text ≡ held = same_text source.before held text told read.held in
+    not_both text straight (rw e read.short) (rw e read.form) h
+
+pub smooth_refused : (status : Status) (reductions : ℕ) (source report order : Port) → AnswersRun reductions status source report order → IsSmoothRefusal source report order → IsRefusedOrNoMemory status
+smooth_refused Done reductions source report order h s = absurd (accepted_not source h.text s.text h.straight s.told h.read s.refused)
+smooth_refused NoMemory reductions source report order h s = inr refl
+smooth_refused Refused reductions source report order h s = inl refl
+smooth_refused Usage reductions source report order h s = absurd h
+smooth_refused ReadFault reductions source report order h s = absurd (s.well.source_well h.fault)
+smooth_refused ReportFault reductions source report order h s = elim h [
+  | inl w ↦ absurd (s.well.report_well w.fault)
+  | inr w ↦ absurd (s.well.report_well w.fault)
+]
+smooth_refused OrderFault reductions source report order h s = absurd (s.well.order_well h.fault)
+smooth_refused BadOrder reductions source report order h s = absurd h

@@ -1,0 +1,6 @@
+use Rattle.std.proofs.Common.{rules}
+use Rattle.bits_top.proofs.Answers.{run_told}
+use Rattle.bits_top.proofs.program.texts_of.Goals as goal
+
+pub returns : goal.returns
+returns c = run_told c.args.straight.now c.args.reductions c.in_ok-outcome.outcome _ _ (search rules) (search rules) (search rules)

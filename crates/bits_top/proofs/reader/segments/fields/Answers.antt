@@ -1,0 +1,21 @@
+use Rattle.std.proofs.Common.{ℕ, eqb, rules, tests, ◌≡◌, ◌∙◌, sym, map}
+use Rattle.std.proofs.lemmas.Iterator.Splits.{YieldsList-from_slice_split}
+use Rattle.std.proofs.lemmas.Iterator.Consumers.{YieldsList-turn, YieldsList-end}
+use Rattle.bits_top.specs.Form.{field_text, IsField}
+use Rattle.bits_top.proofs.Spelling.{pieces, field_pieces, no_piece, some_pieces, text_from_pieces}
+use Rattle.bits_top.proofs.reader.segments.fields.Goals as goal
+
+pub returns-in_default : goal.returns-in_default
+returns-in_default c = λ fields h.
+    let turn = YieldsList-turn (YieldsList-from_slice_split {s = c.into_iter-piece-iterator.result} _ (λ (b : ℕ). eqb b 44) c.args.text.now (cc) (cc) c.split-piece-items.ensures.closure (λ x b q k. search (rules, tests))) c.loop-piece.yielded _ c.loop-piece.yielded_by _ _ c.in-Some.piece c.in-Some.is c.next.ensures.steps in
+    no_piece field_text IsField c.args.text.now fields _ c.in-Some.piece.now (field_pieces c.args.text.now fields h) h.fit turn.0 turn.1 (λ x spelled fits. c.in_default.ensures x (record { spelled = spelled; fits = fits }))
+
+pub returns : goal.returns
+returns c =
+    let end = YieldsList-end (YieldsList-from_slice_split {s = c.into_iter-piece-iterator.result} _ (λ (b : ℕ). eqb b 44) c.args.text.now (cc) (cc) c.split-piece-items.ensures.closure (λ x b q k. search (rules, tests))) c.loop-piece.yielded _ c.loop-piece.yielded_by _ _ c.in-None.is c.next.ensures.steps in
+    let same : pieces c.args.text.now ≡ map field_text c.loop-piece.fields.items = sym end.0 ∙ sym c.loop-piece.invariant.2 in
+    record {
+      some = some_pieces field_text c.args.text.now c.loop-piece.fields.items same;
+      spelled = text_from_pieces c.args.text.now (map field_text c.loop-piece.fields.items) same;
+      fit = c.loop-piece.invariant.3;
+    }

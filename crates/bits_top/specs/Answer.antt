@@ -1,0 +1,222 @@
+-- What each answer of a command says of the ports (this project's own).
+use Rattle.std.specs.Prelude.{◌≡◌, ◌⊎◌, ℕ, ◌≤◌, ◌<◌, List, length, codes, Option, Some, None, IfSome}
+use Rattle.std.specs.Io.KnownBytes.{Appends, IsAtEnd}
+use Rattle.io_ports.specs.Causes.{Rose}
+use Rattle.bits_top.specs.Stream.{AppendsPrefix}
+use Rattle.bits_top.specs.Form.{IsForm}
+use Rattle.bits_top.specs.Machine.{IsLegal, IsComplete}
+use Rattle.bits_top.specs.Runs.{start}
+use Rattle.bits_top.specs.Texts as texts
+use Rattle.bits_top.specs.declared.entry.Entry.{Entry}
+use Rattle.bits_top.specs.declared.form.Straight.{Straight}
+use Rattle.bits_top.specs.declared.status.Status.{Status}
+use Rattle.bits_top.specs.declared.status.Status.TheVariants.{Done, Refused, Usage, ReadFault, ReportFault, OrderFault, NoMemory, BadOrder}
+
+-- a port before and after a call: the bytes that it tells, and its faults
+pub record Port : Type 0 where
+  pub before : Option (List ℕ)
+  pub after : Option (List ℕ)
+  pub faults_before : ℕ
+  pub faults_after : ℕ
+
+abbrev pub port : {X : Type 0} → (X → Option (List ℕ)) → (X → ℕ) → X → X → Port
+port told faults old new = record { before = told old; after = told new; faults_before = faults old; faults_after = faults new }
+
+-- its count of faults rose in the call
+abbrev pub Faulted : Port → Type 0
+Faulted p = Rose p.faults_before p.faults_after
+
+-- it tells the same as before, and so does its count
+pub record Untouched (p : Port) : Type 0 where
+  pub told : p.after ≡ p.before
+  pub count : p.faults_after ≡ p.faults_before
+
+-- a source held this text, where it tells
+abbrev pub Held : Port → List ℕ → Type 0
+Held p text = IfSome p.before (λ held. held ≡ text)
+
+-- a sink took these bytes and no others, where it tells
+abbrev pub Took : Port → List ℕ → Type 0
+Took p bytes = Appends p.before p.after bytes
+
+-- a sink took a front of these bytes
+abbrev pub TookFront : Port → List ℕ → Type 0
+TookFront p bytes = AppendsPrefix p.before p.after bytes
+
+-- the most bytes that a module's text may have
+abbrev pub text_limit : ℕ
+text_limit = 1_048_576
+
+-- The source was read to its end, and its text spells the module.
+pub record IsAccepted (source : Port) (text : List ℕ) (straight : Straight) : Type 0 where
+  pub held : Held source text
+  pub ended : IsAtEnd source.after
+  pub short : length text ≤ text_limit
+  pub form : IsForm text straight
+
+pub record IsTooLong (source : Port) (text line : List ℕ) : Type 0 where
+  pub held : Held source text
+  pub long : text_limit < length text
+  pub due : line ≡ codes "1:1: text too long\n"
+
+-- The source was read to its end, and its text spells no module that can be run today.
+pub record IsNotBuilt (source : Port) (text line : List ℕ) : Type 0 where
+  pub held : Held source text
+  pub ended : IsAtEnd source.after
+  pub short : length text ≤ text_limit
+  pub none : (straight : Straight) → IsForm text straight → ⊥
+  pub due : line ≡ codes "1:1: not built\n"
+
+-- The text is refused with this line.
+abbrev pub IsRefusedWith : Port → List ℕ → List ℕ → Type 0
+IsRefusedWith source text line = IsTooLong source text line ⊎ IsNotBuilt source text line
+
+-- An order of the module's copying machine, legal and complete, and its two texts.
+pub record IsRun (straight : Straight) (reductions : ℕ) (order report : List ℕ) : Type 0 where
+  pub entries : List Entry
+  pub legal : IsLegal (start straight reductions) entries
+  pub complete : IsComplete (start straight reductions) entries
+  pub ordered : order ≡ texts.order_text entries
+  pub reported : report ≡ texts.report (start straight reductions) entries
+
+-- The module was run: all bytes that the order sink took are the text of a legal and complete order, and all that the
+-- report sink took are the module's report in that order.
+pub record IsDone (reductions : ℕ) (source report order : Port) : Type 0 where
+  pub text : List ℕ
+  pub straight : Straight
+  pub read : IsAccepted source text straight
+  pub order_text : List ℕ
+  pub report_text : List ℕ
+  pub run : IsRun straight reductions order_text report_text
+  pub ordered : Took order order_text
+  pub reported : Took report report_text
+
+-- The refusal's line is the whole report.
+pub record IsRefused (source report order : Port) : Type 0 where
+  pub text : List ℕ
+  pub line : List ℕ
+  pub read : IsRefusedWith source text line
+  pub reported : Took report line
+  pub ordered : Untouched order
+
+pub record IsReadFault (source report order : Port) : Type 0 where
+  pub fault : Faulted source
+  pub reported : Untouched report
+  pub ordered : Untouched order
+
+pub record IsOrderFault (reductions : ℕ) (source report order : Port) : Type 0 where
+  pub text : List ℕ
+  pub straight : Straight
+  pub read : IsAccepted source text straight
+  pub order_text : List ℕ
+  pub report_text : List ℕ
+  pub run : IsRun straight reductions order_text report_text
+  pub fault : Faulted order
+  pub ordered : TookFront order order_text
+  pub reported : Untouched report
+
+-- The report of a run was due, whose order is written whole.
+pub record IsReportFaultOfRun (reductions : ℕ) (source report order : Port) : Type 0 where
+  pub text : List ℕ
+  pub straight : Straight
+  pub read : IsAccepted source text straight
+  pub order_text : List ℕ
+  pub report_text : List ℕ
+  pub run : IsRun straight reductions order_text report_text
+  pub ordered : Took order order_text
+  pub fault : Faulted report
+  pub reported : TookFront report report_text
+
+-- The line of a refusal was due.
+pub record IsReportFaultOfRefusal (source report order : Port) : Type 0 where
+  pub text : List ℕ
+  pub line : List ℕ
+  pub read : IsRefusedWith source text line
+  pub ordered : Untouched order
+  pub fault : Faulted report
+  pub reported : TookFront report line
+
+-- What the answer to `run` says. Want of memory is free.
+abbrev pub AnswersRun : ℕ → Status → Port → Port → Port → Type 0
+AnswersRun reductions Done source report order = IsDone reductions source report order
+AnswersRun reductions Refused source report order = IsRefused source report order
+AnswersRun reductions Usage source report order = ⊥
+AnswersRun reductions ReadFault source report order = IsReadFault source report order
+AnswersRun reductions ReportFault source report order = IsReportFaultOfRun reductions source report order ⊎ IsReportFaultOfRefusal source report order
+AnswersRun reductions OrderFault source report order = IsOrderFault reductions source report order
+AnswersRun reductions NoMemory source report order = Unit {0}
+AnswersRun reductions BadOrder source report order = ⊥
+
+-- What the answer to a refusal says: its line is written, or the report failed.
+abbrev pub AnswersRefusal : Status → Port → List ℕ → Type 0
+AnswersRefusal Refused report line = Took report line
+AnswersRefusal ReportFault report line = Faulted report × TookFront report line
+AnswersRefusal Done report line = ⊥
+AnswersRefusal Usage report line = ⊥
+AnswersRefusal ReadFault report line = ⊥
+AnswersRefusal OrderFault report line = ⊥
+AnswersRefusal NoMemory report line = ⊥
+AnswersRefusal BadOrder report line = ⊥
+
+-- the two sinks after a run that is written
+pub record IsWritten (straight : Straight) (reductions : ℕ) (report order : Port) : Type 0 where
+  pub order_text : List ℕ
+  pub report_text : List ℕ
+  pub run : IsRun straight reductions order_text report_text
+  pub ordered : Took order order_text
+  pub reported : Took report report_text
+
+pub record IsOrderFailed (straight : Straight) (reductions : ℕ) (report order : Port) : Type 0 where
+  pub order_text : List ℕ
+  pub report_text : List ℕ
+  pub run : IsRun straight reductions order_text report_text
+  pub fault : Faulted order
+  pub ordered : TookFront order order_text
+  pub reported : Untouched report
+
+pub record IsReportFailed (straight : Straight) (reductions : ℕ) (report order : Port) : Type 0 where
+  pub order_text : List ℕ
+  pub report_text : List ℕ
+  pub run : IsRun straight reductions order_text report_text
+  pub ordered : Took order order_text
+  pub fault : Faulted report
+  pub reported : TookFront report report_text
+
+-- What the answer to an accepted module says of the two sinks.
+abbrev pub AnswersAccepted : ℕ → Straight → Status → Port → Port → Type 0
+AnswersAccepted reductions straight Done report order = IsWritten straight reductions report order
+AnswersAccepted reductions straight OrderFault report order = IsOrderFailed straight reductions report order
+AnswersAccepted reductions straight ReportFault report order = IsReportFailed straight reductions report order
+AnswersAccepted reductions straight NoMemory report order = Unit {0}
+AnswersAccepted reductions straight Refused report order = ⊥
+AnswersAccepted reductions straight Usage report order = ⊥
+AnswersAccepted reductions straight ReadFault report order = ⊥
+AnswersAccepted reductions straight BadOrder report order = ⊥
+
+-- No count of faults rose.
+pub record AreWell (source report order : Port) : Type 0 where
+  pub source_well : Faulted source → ⊥
+  pub report_well : Faulted report → ⊥
+  pub order_well : Faulted order → ⊥
+
+-- The source tells the text of a module that can be run, and no count rises.
+pub record IsSmooth (source report order : Port) : Type 0 where
+  pub text : List ℕ
+  pub told : source.before ≡ Some text
+  pub short : length text ≤ text_limit
+  pub straight : Straight
+  pub form : IsForm text straight
+  pub well : AreWell source report order
+
+-- The source tells a text that is too long or spells no such module, and no count rises.
+pub record IsSmoothRefusal (source report order : Port) : Type 0 where
+  pub text : List ℕ
+  pub told : source.before ≡ Some text
+  pub refused : (text_limit < length text) ⊎ ((straight : Straight) → IsForm text straight → ⊥)
+  pub well : AreWell source report order
+
+abbrev pub IsDoneOrNoMemory : Status → Type 0
+IsDoneOrNoMemory status = (status ≡ Done) ⊎ (status ≡ NoMemory)
+
+abbrev pub IsRefusedOrNoMemory : Status → Type 0
+IsRefusedOrNoMemory status = (status ≡ Refused) ⊎ (status ≡ NoMemory)

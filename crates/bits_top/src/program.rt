@@ -1,0 +1,152 @@
+// The top call: the words of a command line, the ports, the answer.
+ghost use Rattle.std.specs.Prelude.{◌≡◌, ◌≤◌, ◌↔◌, ℕ, List, All, IfOk, map, string_bytes};
+ghost use Rattle.bits_top.specs.Answer.{AnswersAccepted, AnswersRefusal, AnswersRun, IsDoneOrNoMemory, IsRefusedOrNoMemory, IsRun, IsSmooth, IsSmoothRefusal, Untouched, port};
+ghost use Rattle.bits_top.specs.Command.{Spells};
+ghost use Rattle.bits_top.specs.Form.{IsStraight};
+ghost use Rattle.bits_top.specs.Runs.{IsShort};
+ghost use Rattle.bits_top.specs.declared.command.Command.{Command};
+ghost use Rattle.bits_top.specs.declared.command.Run.{Run};
+
+use crate::command::{Command, command_of};
+use crate::form::Straight;
+use crate::streams::{ReadError, read_all, write_all};
+use crate::{Status, reader, run, texts};
+use io_ports::{Gate, Place, Sink, Source};
+use std::alloc::{AllocError, Global};
+use std::sync::Wait;
+use std::thread::Threads;
+
+// The most bytes that a module's text may have.
+const TEXT_LIMIT: u32 = 1_048_576;
+
+/// Does what the words of a command line ask for, over these ports, and answers how it ended.
+///
+/// The words are those after the program's own name. Today the one command is `run MODULE ORDER SCHEDULERS REDUCTIONS`:
+/// the module's text is read from `module`, the order of the visible acts is written to `order_out`, and then the report
+/// to `report`. The file names stand in the words for the caller, who opens the files. `order_in` isn't used.
+pub fn top<R: Threads + Wait + Sync, S: Source, T: Source, A: Sink, B: Sink, G: Gate + Sync>(
+    _rt: &R,
+    alloc: Global,
+    words: &[String],
+    module: &mut S,
+    order_in: &mut T,
+    report: &mut A,
+    order_out: &mut B,
+    gate: &G,
+) -> Status
+    ensures usage { result ≡ Status.Usage ↔ ((command : Command) → Spells (map string_bytes words.now) command → ⊥) }
+    ensures idle { result ≡ Status.Usage →
+        Untouched (port S.left S.faults «module».old «module».new)
+        × Untouched (port T.left T.faults order_in.old order_in.new)
+        × Untouched (port A.written A.faults report.old report.new)
+        × Untouched (port B.written B.faults order_out.old order_out.new) }
+    ensures run { (run : Run) → Spells (map string_bytes words.now) (Command.Run run) → AnswersRun run.reductions result
+        (port S.left S.faults «module».old «module».new)
+        (port A.written A.faults report.old report.new)
+        (port B.written B.faults order_out.old order_out.new) }
+    ensures run_leaves { (run : Run) → Spells (map string_bytes words.now) (Command.Run run) → Untouched (port T.left T.faults order_in.old order_in.new) }
+    ensures complete { (run : Run) → Spells (map string_bytes words.now) (Command.Run run) → IsSmooth
+        (port S.left S.faults «module».old «module».new)
+        (port A.written A.faults report.old report.new)
+        (port B.written B.faults order_out.old order_out.new)
+        → IsDoneOrNoMemory result }
+    ensures refuses { (run : Run) → Spells (map string_bytes words.now) (Command.Run run) → IsSmoothRefusal
+        (port S.left S.faults «module».old «module».new)
+        (port A.written A.faults report.old report.new)
+        (port B.written B.faults order_out.old order_out.new)
+        → IsRefusedOrNoMemory result }
+{
+    match command_of(words) {
+        None => Status::Usage,
+        Some(Command::Run(asked)) => {
+            gate.at(Place::Took { worker: 0, pid: 1 });
+            run_module(alloc, asked.reductions, module, report, order_out)
+        }
+    }
+}
+
+// Reads the module and runs it, or refuses its text.
+fn run_module<S: Source, A: Sink, B: Sink>(
+    alloc: Global,
+    reductions: u32,
+    source: &mut S,
+    report: &mut A,
+    order: &mut B,
+) -> Status
+    requires { 1 ≤ reductions }
+    ensures { AnswersRun reductions result
+        (port S.left S.faults source.old source.new)
+        (port A.written A.faults report.old report.new)
+        (port B.written B.faults order.old order.new) }
+{
+    let text = match read_all(alloc, source, TEXT_LIMIT) {
+        Ok(text) => text,
+        Err(ReadError::Fault) => return Status::ReadFault,
+        Err(ReadError::Memory) => return Status::NoMemory,
+    };
+    if text.len() > TEXT_LIMIT as usize {
+        return refuse(report, b"1:1: text too long\n");
+    }
+    match reader::read(alloc, &text) {
+        Ok(Some(straight)) => answer(alloc, reductions, &straight, report, order),
+        Ok(None) => refuse(report, b"1:1: not built\n"),
+        Err(_) => Status::NoMemory,
+    }
+}
+
+// Writes the line of a refusal.
+fn refuse<A: Sink>(report: &mut A, line: &[u8]) -> Status
+    ensures { AnswersRefusal result (port A.written A.faults report.old report.new) line.now }
+{
+    match write_all(report, line) {
+        Ok(()) => Status::Refused,
+        Err(_) => Status::ReportFault,
+    }
+}
+
+// The texts of a run.
+#[derive(Debug, Drop)]
+struct Texts {
+    order: Vec<u8>,
+    report: Vec<u8>,
+}
+
+// Runs the module.
+fn texts_of(alloc: Global, reductions: u32, straight: &Straight) -> Result<Texts, AllocError>
+    requires formed { IsStraight straight.now }
+    requires short { All IsShort straight.now.items }
+    requires some { 1 ≤ reductions }
+    ensures { IfOk result (λ texts. IsRun straight.now reductions texts.order.items texts.report.items) }
+{
+    let outcome = run::run(alloc, straight, reductions)?;
+    let order = texts::order(alloc, outcome.entries.items())?;
+    let report = texts::report(alloc, outcome.shown.items(), outcome.ending)?;
+    Ok(Texts { order, report })
+}
+
+// Runs the module, and writes the order whole before the report.
+fn answer<A: Sink, B: Sink>(
+    alloc: Global,
+    reductions: u32,
+    straight: &Straight,
+    report: &mut A,
+    order: &mut B,
+) -> Status
+    requires formed { IsStraight straight.now }
+    requires short { All IsShort straight.now.items }
+    requires some { 1 ≤ reductions }
+    ensures { AnswersAccepted reductions straight.now result
+        (port A.written A.faults report.old report.new)
+        (port B.written B.faults order.old order.new) }
+{
+    let Ok(texts) = texts_of(alloc, reductions, straight) else {
+        return Status::NoMemory;
+    };
+    if write_all(order, &texts.order).is_err() {
+        return Status::OrderFault;
+    }
+    match write_all(report, &texts.report) {
+        Ok(()) => Status::Done,
+        Err(_) => Status::ReportFault,
+    }
+}

@@ -1,0 +1,10 @@
+use Rattle.std.proofs.Common.{◌-◌, ◌≡◌, ◌≤◌}
+use Rattle.bits_value.specs.Bits.{bit_list}
+use Rattle.bits_value.specs.Number.{natural}
+use Rattle.bits_value.proofs.reading.gather_bytes.Given as goal
+
+abbrev pub invariant-loop-done : goal.invariant-loop-done
+invariant-loop-done l = record { within : l.done ≤ l.count; sum_is : l.sum ≡ natural (bit_list l.bytes l.start l.done) }
+
+abbrev pub decreases-loop-done : goal.decreases-loop-done
+decreases-loop-done l = l.count - l.done

@@ -1,0 +1,14 @@
+use Rattle.std.proofs.Common.{◌-◌, ◌≡◌, ◌≤◌, ◌<◌, ◌%◌}
+use Rattle.bits_value.specs.Bits.{bit_list}
+use Rattle.bits_value.specs.Number.{natural, reordered}
+use Rattle.bits_value.proofs.reading.gather_little.Given as goal
+
+abbrev pub invariant-loop-done : goal.invariant-loop-done
+invariant-loop-done l = record {
+  within : l.done ≤ l.count;
+  groups : l.done < l.count → l.done % 8 ≡ 0;
+  sum_is : l.sum ≡ natural (reordered (bit_list l.bytes l.start l.done));
+}
+
+abbrev pub decreases-loop-done : goal.decreases-loop-done
+decreases-loop-done l = l.count - l.done
