@@ -12,11 +12,11 @@ use Rattle.erl_syntax.specs.Spellings.{spelling, begins_with}
 spelled_out : TokenKind → Bool
 spelled_out kind = nat_lt 0 (length (spelling kind))
 
-and_left : (a b : Bool) → (a && b) ≡ true → a ≡ true
+pub and_left : (a b : Bool) → (a && b) ≡ true → a ≡ true
 and_left true b e = refl
 and_left false b e = e
 
-and_right : (a b : Bool) → (a && b) ≡ true → b ≡ true
+pub and_right : (a b : Bool) → (a && b) ≡ true → b ≡ true
 and_right true b e = e
 and_right false b e = absurd (cc)
 
@@ -33,13 +33,13 @@ all_spelled : list_all spelled_out MARKS ≡ true
 unfolding spelled_out
 all_spelled = refl
 
-stands : (bs : List ℕ) (kind : TokenKind) → begins_with bs kind ≡ true → spelling kind ≡ take (length (spelling kind)) bs
-stands bs kind e = same_text (spelling kind) (take (length (spelling kind)) bs) (sym e)
+pub mark_stands : (bs : List ℕ) (kind : TokenKind) → begins_with bs kind ≡ true → spelling kind ≡ take (length (spelling kind)) bs
+mark_stands bs kind e = same_text (spelling kind) (take (length (spelling kind)) bs) (sym e)
 
 within : (bs : List ℕ) (kind : TokenKind) → begins_with bs kind ≡ true → spelled_out kind ≡ true → (0 < length (spelling kind)) × (length (spelling kind) ≤ length bs)
 unfolding spelled_out
 within bs kind e f =
-    let s : length (spelling kind) ≡ length (take (length (spelling kind)) bs) = ap length (stands bs kind e) in
+    let s : length (spelling kind) ≡ length (take (length (spelling kind)) bs) = ap length (mark_stands bs kind e) in
     (grind (arith, common_steps), omega (arith, s, length-take (length (spelling kind)) bs))
 
 within_found : (bs : List ℕ) (r : Option TokenKind) → IfSome r (λ kind. (begins_with bs kind ≡ true) × (spelled_out kind ≡ true)) →

@@ -10,3 +10,5 @@ pub mod IntegerValues
 pub mod AllValues
 pub mod LongestQuote
 pub mod LongestToken
+pub mod TokenWithin
+pub mod TokenItself

@@ -1,8 +1,10 @@
--- An escape, a `$` character and a quote end where they end in any longer front of the text.
+-- An escape, a `$` character and a quote end within the text, and where they end in any longer front of it.
 use Rattle.std.proofs.Common.{◌≡◌, ℕ, zero, suc, ◌+◌, ◌-◌, ◌<◌, ◌≤◌, Bool, true, false, ◌&&◌, nat_lt, ◌==◌, if◌then◌else◌, List, [], ◌∷◌, length, drop, take, get_or, Option, Some, None, refl, sym, ap, arith, ◌∙◌}
 use Rattle.std.specs.List.{prefix_len}
 use Rattle.std.specs.Char.{is_ascii_alphabetic}
-use Rattle.std.proofs.lemmas.List.{drop-take, get_or-take}
+use Rattle.std.proofs.lemmas.Grind.{common_steps}
+use Rattle.std.proofs.lemmas.List.{drop-take, get_or-take, length-take}
+use Rattle.std.proofs.lemmas.List.Sums.{prefix_len-le-length}
 use Rattle.erl_syntax.specs.declared.token.TokenKind.{TokenKind}
 use Rattle.erl_syntax.specs.declared.token.TokenKind.TheVariants as k
 use Rattle.erl_syntax.specs.declared.token.LexCause.{LexCause}
@@ -12,6 +14,7 @@ use Rattle.erl_syntax.specs.declared.token.Piece.TheVariants as p
 use Rattle.erl_syntax.specs.Characters.{is_continuation, character_len, is_digit, number, is_scalar, escape_len, octal_len, hexadecimal_len, braced_len, control_len, spelled, between_quotes}
 use Rattle.erl_syntax.specs.Tokens.{character, escaped_character, no_escape, string, quoted_atom, quoted, limited}
 use Rattle.erl_tokens.proofs.IntegerValues.{prefix_take, take_take}
+use Rattle.erl_tokens.proofs.FoundMark.{and_left, and_right}
 use Rattle.erl_tokens.proofs.Spelled.{is_other}
 
 some_same : (a b : ℕ) → Some a ≡ Some b → a ≡ b
@@ -19,7 +22,20 @@ some_same a b e = cc
 
 -- ---- Escapes
 
-octal_by : (e j : ℕ) (r : List ℕ) (c d : Bool) → is_digit 8 (get_or r 1 0) ≡ c → is_digit 8 (get_or r 2 0) ≡ d → octal_len r ≡ e → e < j → octal_len (take j r) ≡ e
+pub past_end : (t : List ℕ) (m : ℕ) → length t ≤ m → get_or t m 0 ≡ 0
+past_end t m h = grind (arith, common_steps)
+
+past_take : (j i : ℕ) (r : List ℕ) → j ≤ i → get_or (take j r) i 0 ≡ 0
+past_take j i r h = past_end (take j r) i (omega (arith, length-take j r))
+
+no_octal : is_digit 8 0 ≡ false
+no_octal = refl
+
+octal_false : (j i : ℕ) (r : List ℕ) (c : Bool) → nat_lt i j ≡ c → is_digit 8 (get_or r i 0) ≡ false → is_digit 8 (get_or (take j r) i 0) ≡ false
+octal_false j i r true c f = let l : i < j = grind (arith, common_steps) in ap (is_digit 8) (get_or-take j r i 0 l) ∙ f
+octal_false j i r false c f = let l : j ≤ i = grind (arith, common_steps) in ap (is_digit 8) (past_take j i r l) ∙ no_octal
+
+octal_by : (e j : ℕ) (r : List ℕ) (c d : Bool) → is_digit 8 (get_or r 1 0) ≡ c → is_digit 8 (get_or r 2 0) ≡ d → octal_len r ≡ e → e ≤ j → octal_len (take j r) ≡ e
 octal_by e j r true true f g h l =
     let a : 3 ≡ e = rw (f, g) at h in
     let x : is_digit 8 (get_or (take j r) 1 0) ≡ true = ap (is_digit 8) (get_or-take j r 1 0 (omega arith)) ∙ f in
@@ -28,14 +44,14 @@ octal_by e j r true true f g h l =
 octal_by e j r true false f g h l =
     let a : 2 ≡ e = rw (f, g) at h in
     let x : is_digit 8 (get_or (take j r) 1 0) ≡ true = ap (is_digit 8) (get_or-take j r 1 0 (omega arith)) ∙ f in
-    let y : is_digit 8 (get_or (take j r) 2 0) ≡ false = ap (is_digit 8) (get_or-take j r 2 0 (omega arith)) ∙ g in
+    let y : is_digit 8 (get_or (take j r) 2 0) ≡ false = octal_false j 2 r (nat_lt 2 j) refl g in
     rw (x, y) a
 octal_by e j r false d f g h l =
     let a : 1 ≡ e = rw f at h in
-    let x : is_digit 8 (get_or (take j r) 1 0) ≡ false = ap (is_digit 8) (get_or-take j r 1 0 (omega arith)) ∙ f in
+    let x : is_digit 8 (get_or (take j r) 1 0) ≡ false = octal_false j 1 r (nat_lt 1 j) refl f in
     rw x a
 
-octal_take : (e j : ℕ) (r : List ℕ) → octal_len r ≡ e → e < j → octal_len (take j r) ≡ e
+octal_take : (e j : ℕ) (r : List ℕ) → octal_len r ≡ e → e ≤ j → octal_len (take j r) ≡ e
 octal_take e j r h l = octal_by e j r (is_digit 8 (get_or r 1 0)) (is_digit 8 (get_or r 2 0)) refl refl h l
 
 -- the braced escape of n digits, the byte behind them and the digits
@@ -63,7 +79,7 @@ pair_if : (c : Bool) (e : ℕ) → (if c then Some 3 else None) ≡ Some e → 3
 pair_if true e h = some_same 3 e h
 pair_if false e h = absurd (cc)
 
-hexadecimal_case : (c : Bool) (e i y : ℕ) (ys : List ℕ) → (y == 123) ≡ c → hexadecimal_len (y ∷ ys) ≡ Some e → e ≤ i + 1 → hexadecimal_len (y ∷ take i ys) ≡ Some e
+hexadecimal_case : (c : Bool) (e i y : ℕ) (ys : List ℕ) → (y == 123) ≡ c → hexadecimal_len (y ∷ ys) ≡ Some e → e ≤ i + 2 → hexadecimal_len (y ∷ take i ys) ≡ Some e
 hexadecimal_case true e i y ys c h l =
     let a : braced_len ys ≡ Some e = rw c at h in
     rw c (braced_take e i ys a (omega arith))
@@ -76,7 +92,7 @@ hexadecimal_case false e i y ys c h l =
 nothing_hexadecimal : (e : ℕ) → hexadecimal_len [] ≡ Some e → ⊥
 nothing_hexadecimal e h = cc
 
-hexadecimal_take : (e j : ℕ) (ys : List ℕ) → hexadecimal_len ys ≡ Some e → 0 < j → e ≤ j → hexadecimal_len (take j ys) ≡ Some e
+hexadecimal_take : (e j : ℕ) (ys : List ℕ) → hexadecimal_len ys ≡ Some e → 0 < j → e ≤ j + 1 → hexadecimal_len (take j ys) ≡ Some e
 hexadecimal_take e j [] h z l = absurd (nothing_hexadecimal e h)
 hexadecimal_take e zero (y ∷ ys) h z l = elim z [ ]
 hexadecimal_take e (suc i) (y ∷ ys) h z l = hexadecimal_case (y == 123) e i y ys refl h (omega arith)
@@ -110,7 +126,7 @@ escape_is : (b : ℕ) (r : List ℕ) → escape_len (b ∷ r) ≡ escape_by b (b
 unfolding escape_by
 escape_is b r = let e : (length (b ∷ r) == 0) ≡ false = is_other (length (b ∷ r)) 0 (λ h. omega (arith, h)) in rw e refl
 
-escape_case : (c d f : Bool) (e i b : ℕ) (r : List ℕ) → is_digit 8 b ≡ c → (b == 120) ≡ d → (b == 94) ≡ f → escape_by b (b ∷ r) ≡ Some e → e < suc i → escape_by b (b ∷ take i r) ≡ Some e
+escape_case : (c d f : Bool) (e i b : ℕ) (r : List ℕ) → is_digit 8 b ≡ c → (b == 120) ≡ d → (b == 94) ≡ f → escape_by b (b ∷ r) ≡ Some e → e ≤ suc i → escape_by b (b ∷ take i r) ≡ Some e
 unfolding escape_by
 escape_case true d f e i b r x y z h l =
     let a : octal_len (b ∷ r) ≡ e = some_same (octal_len (b ∷ r)) e (rw x at h) in
@@ -130,15 +146,101 @@ escape_case false false false e i b r x y z h l =
 escape_none : (e : ℕ) → escape_len [] ≡ Some e → ⊥
 escape_none e h = cc
 
-pub escape_take : (e j : ℕ) (r : List ℕ) → escape_len r ≡ Some e → e < j → escape_len (take j r) ≡ Some e
-escape_take e j [] h l = absurd (escape_none e h)
-escape_take e zero (b ∷ r) h l = elim l [ ]
-escape_take e (suc i) (b ∷ r) h l =
+pub escape_take : (e j : ℕ) (r : List ℕ) → escape_len r ≡ Some e → 0 < j → e ≤ j → escape_len (take j r) ≡ Some e
+escape_take e j [] h z l = absurd (escape_none e h)
+escape_take e zero (b ∷ r) h z l = elim z [ ]
+escape_take e (suc i) (b ∷ r) h z l =
     escape_is b (take i r) ∙ escape_case (is_digit 8 b) (b == 120) (b == 94) e i b r refl refl refl (sym (escape_is b r) ∙ h) l
+
+octal_some : (c d : Bool) (e : ℕ) → (if c then (if d then 3 else 2) else 1) ≡ e → 0 < e
+octal_some true true e h = omega (arith, h)
+octal_some true false e h = omega (arith, h)
+octal_some false d e h = omega (arith, h)
+
+some_by : (b e : ℕ) (r : List ℕ) (c d f : Bool) → is_digit 8 b ≡ c → (b == 120) ≡ d → (b == 94) ≡ f → escape_by b (b ∷ r) ≡ Some e → 0 < e
+unfolding escape_by
+some_by b e r true d f x y z h = octal_some (is_digit 8 (get_or (b ∷ r) 1 0)) (is_digit 8 (get_or (b ∷ r) 2 0)) e (some_same (octal_len (b ∷ r)) e (rw x at h))
+some_by b e r false true f x y z h =
+    let a : hexadecimal_len r ≡ Some e = rw (x, y) at h in
+    omega (arith, hexadecimal_least (get_or r 0 0 == 123) e r refl a)
+some_by b e r false false true x y z h =
+    let a : control_len r ≡ Some e = rw (x, y, z) at h in
+    omega (arith, two_if (is_ascii_alphabetic (get_or r 0 0)) e a)
+some_by b e r false false false x y z h = omega (arith, some_same (character_len (b ∷ r)) e (rw (x, y, z) at h))
+
+pub escape_some : (e : ℕ) (r : List ℕ) → escape_len r ≡ Some e → 0 < e
+escape_some e [] h = absurd (escape_none e h)
+escape_some e (b ∷ r) h = some_by b e r (is_digit 8 b) (b == 120) (b == 94) refl refl refl (sym (escape_is b r) ∙ h)
+
+-- ---- An escape ends within the text
+
+standing_by : (c : Bool) (q : ℕ → Bool) (i : ℕ) (r : List ℕ) → nat_lt i (length r) ≡ c → q 0 ≡ false → q (get_or r i 0) ≡ true → i < length r
+standing_by true q i r l f t = grind (arith, common_steps)
+standing_by false q i r l f t =
+    let m : length r ≤ i = grind (arith, common_steps) in
+    let z : q (get_or r i 0) ≡ q 0 = ap q (past_end r i m) in
+    absurd (let y : true ≡ false = sym t ∙ z ∙ f in cc)
+
+-- a byte that passes a test, which no byte past the end does, stands in the text
+pub standing : (q : ℕ → Bool) (i : ℕ) (r : List ℕ) → q 0 ≡ false → q (get_or r i 0) ≡ true → i < length r
+standing q i r f t = standing_by (nat_lt i (length r)) q i r refl f t
+
+some_if : (c : Bool) (n e : ℕ) → (if c then Some n else None) ≡ Some e → c ≡ true
+some_if true n e h = refl
+some_if false n e h = absurd (cc)
+
+octal_fits : (c d : Bool) (e : ℕ) (r : List ℕ) → is_digit 8 (get_or r 1 0) ≡ c → is_digit 8 (get_or r 2 0) ≡ d → 0 < length r → octal_len r ≡ e → e ≤ length r
+octal_fits true true e r x y z h = let a : 3 ≡ e = rw (x, y) at h in omega (arith, a, standing (is_digit 8) 2 r no_octal y)
+octal_fits true false e r x y z h = let a : 2 ≡ e = rw (x, y) at h in omega (arith, a, standing (is_digit 8) 1 r no_octal x)
+octal_fits false d e r x y z h = let a : 1 ≡ e = rw x at h in omega (arith, a, z)
+
+braced_fits : (e : ℕ) (zs : List ℕ) → braced_len zs ≡ Some e → e ≤ length zs + 2
+braced_fits e zs h =
+    let n : ℕ = prefix_len (is_digit 16) zs in
+    let rest : Bool = is_scalar (number 16 (take n zs)) in
+    let c : (nat_lt 0 n && (get_or zs n 0 == 125 && rest)) ≡ true = some_if (nat_lt 0 n && (get_or zs n 0 == 125 && rest)) (n + 3) e h in
+    let d : (get_or zs n 0 == 125) ≡ true = and_left (get_or zs n 0 == 125) rest (and_right (nat_lt 0 n) (get_or zs n 0 == 125 && rest) c) in
+    omega (arith, braced_if (nat_lt 0 n && (get_or zs n 0 == 125 && rest)) n e h, standing (λ b. b == 125) n zs refl d)
+
+hexadecimal_by_first : (c : Bool) (e y : ℕ) (ys : List ℕ) → (y == 123) ≡ c → hexadecimal_len (y ∷ ys) ≡ Some e → e ≤ length (y ∷ ys) + 1
+hexadecimal_by_first true e y ys c h =
+    let a : braced_len ys ≡ Some e = rw c at h in
+    omega (arith, braced_fits e ys a)
+hexadecimal_by_first false e y ys c h =
+    let two : Bool = is_digit 16 y && is_digit 16 (get_or ys 0 0) in
+    let a : (if two then Some 3 else None) ≡ Some e = rw c at h in
+    let d : is_digit 16 (get_or ys 0 0) ≡ true = and_right (is_digit 16 y) (is_digit 16 (get_or ys 0 0)) (some_if two 3 e a) in
+    omega (arith, pair_if two e a, standing (is_digit 16) 0 ys refl d)
+
+hexadecimal_fits : (e : ℕ) (ys : List ℕ) → hexadecimal_len ys ≡ Some e → e ≤ length ys + 1
+hexadecimal_fits e [] h = absurd (nothing_hexadecimal e h)
+hexadecimal_fits e (y ∷ ys) h = hexadecimal_by_first (y == 123) e y ys refl h
+
+control_fits : (e : ℕ) (ys : List ℕ) → control_len ys ≡ Some e → e ≤ length ys + 1
+control_fits e ys h =
+    let c : is_ascii_alphabetic (get_or ys 0 0) ≡ true = some_if (is_ascii_alphabetic (get_or ys 0 0)) 2 e h in
+    omega (arith, two_if (is_ascii_alphabetic (get_or ys 0 0)) e h, standing is_ascii_alphabetic 0 ys refl c)
+
+fits_by : (c d f : Bool) (e b : ℕ) (r : List ℕ) → is_digit 8 b ≡ c → (b == 120) ≡ d → (b == 94) ≡ f → escape_by b (b ∷ r) ≡ Some e → e ≤ length (b ∷ r)
+unfolding escape_by
+fits_by true d f e b r x y z h =
+    octal_fits (is_digit 8 (get_or (b ∷ r) 1 0)) (is_digit 8 (get_or (b ∷ r) 2 0)) e (b ∷ r) refl refl (omega arith) (some_same (octal_len (b ∷ r)) e (rw x at h))
+fits_by false true f e b r x y z h =
+    let a : hexadecimal_len r ≡ Some e = rw (x, y) at h in
+    omega (arith, hexadecimal_fits e r a)
+fits_by false false true e b r x y z h =
+    let a : control_len r ≡ Some e = rw (x, y, z) at h in
+    omega (arith, control_fits e r a)
+fits_by false false false e b r x y z h =
+    omega (arith, some_same (character_len (b ∷ r)) e (rw (x, y, z) at h), prefix_len-le-length is_continuation r)
+
+escape_fits : (e : ℕ) (r : List ℕ) → escape_len r ≡ Some e → e ≤ length r
+escape_fits e [] h = absurd (escape_none e h)
+escape_fits e (b ∷ r) h = fits_by (is_digit 8 b) (b == 120) (b == 94) e b r refl refl refl (sym (escape_is b r) ∙ h)
 
 -- ---- Quotes
 
-token_same : (kind other : TokenKind) (m n : ℕ) → p.Token kind m ≡ p.Token other n → m ≡ n
+pub token_same : (kind other : TokenKind) (m n : ℕ) → p.Token kind m ≡ p.Token other n → m ≡ n
 token_same kind other m n e = cc
 
 fault_token : (c : Bool) (a b : LexCause) (i j n : ℕ) (kind : TokenKind) → (if c then p.Fault a i else p.Fault b j) ≡ p.Token kind n → ⊥
@@ -173,7 +275,7 @@ unfolding after_option
 more_option mark kind other cut at n (Some e) bs r h = omega (arith, r e h)
 more_option mark kind other cut at n None bs r h = absurd (fault_token (cut && length bs == 0) why.NotUtf8 why.BadEscape (at + 1) at n other h)
 
-quoted_more : (mark : ℕ) (kind other : TokenKind) (cut : Bool) (at skip n : ℕ) (bs : List ℕ) → quoted mark kind cut at skip bs ≡ p.Token other n → at + skip < n
+pub quoted_more : (mark : ℕ) (kind other : TokenKind) (cut : Bool) (at skip n : ℕ) (bs : List ℕ) → quoted mark kind cut at skip bs ≡ p.Token other n → at + skip < n
 unfolding inner
 quoted_more mark kind other cut at skip n [] h = absurd (fault_token cut why.NotUtf8 why.UnclosedQuote at 0 n other h)
 quoted_more mark kind other cut at (suc skip) n (b ∷ bs) h = omega (arith, quoted_more mark kind other cut (at + 1) skip n bs h)
@@ -185,11 +287,35 @@ quoted_more mark kind other cut at zero n (b ∷ bs) h =
     (sym (quoted_is mark kind cut at b bs) ∙ h) in
     omega arith
 
+fits_if : (c : Bool) (x y : Piece) (kind : TokenKind) (l n : ℕ) → (x ≡ p.Token kind n → n ≤ l) → (y ≡ p.Token kind n → n ≤ l) → (if c then x else y) ≡ p.Token kind n → n ≤ l
+fits_if true x y kind l n a b e = a e
+fits_if false x y kind l n a b e = b e
+
+fits_option : (mark : ℕ) (kind other : TokenKind) (cut : Bool) (at l n : ℕ) (o : Option ℕ) (bs : List ℕ) → ((e : ℕ) → quoted mark kind cut (at + 1) e bs ≡ p.Token other n → n ≤ l) →
+    after_option mark kind cut at o bs ≡ p.Token other n → n ≤ l
+unfolding after_option
+fits_option mark kind other cut at l n (Some e) bs r h = r e h
+fits_option mark kind other cut at l n None bs r h = absurd (fault_token (cut && length bs == 0) why.NotUtf8 why.BadEscape (at + 1) at n other h)
+
+-- a quote ends within the text, and behind the bytes that were passed
+pub quoted_fits : (mark : ℕ) (kind other : TokenKind) (cut : Bool) (at skip n : ℕ) (bs : List ℕ) → quoted mark kind cut at skip bs ≡ p.Token other n → n ≤ at + length bs
+unfolding inner
+quoted_fits mark kind other cut at skip n [] h = absurd (fault_token cut why.NotUtf8 why.UnclosedQuote at 0 n other h)
+quoted_fits mark kind other cut at (suc skip) n (b ∷ bs) h = omega (arith, quoted_fits mark kind other cut (at + 1) skip n bs h)
+quoted_fits mark kind other cut at zero n (b ∷ bs) h =
+    let l : ℕ = at + 1 + length bs in
+    let s : n ≤ l = fits_if (b == mark) (p.Token kind (at + 1)) (inner mark kind cut at b bs) other l n (λ e. omega (arith, token_same kind other (at + 1) n e))
+    (fits_if (b == 92) (after_option mark kind cut at (escape_len bs) bs) (quoted mark kind cut (at + 1) 0 bs) other l n
+    (fits_option mark kind other cut at l n (escape_len bs) bs (λ e. quoted_fits mark kind other cut (at + 1) e n bs))
+    (quoted_fits mark kind other cut (at + 1) 0 n bs))
+    (sym (quoted_is mark kind cut at b bs) ∙ h) in
+    omega arith
+
 same_if : (c : Bool) (x y z : Piece) (t : Piece) → (y ≡ t → z ≡ t) → (if c then x else y) ≡ t → (if c then x else z) ≡ t
 same_if true x y z t f e = e
 same_if false x y z t f e = f e
 
-same_both : (c : Bool) (w x y z : Piece) (t : Piece) → (w ≡ t → x ≡ t) → (y ≡ t → z ≡ t) → (if c then w else y) ≡ t → (if c then x else z) ≡ t
+pub same_both : (c : Bool) (w x y z : Piece) (t : Piece) → (w ≡ t → x ≡ t) → (y ≡ t → z ≡ t) → (if c then w else y) ≡ t → (if c then x else z) ≡ t
 same_both true w x y z t f g e = f e
 same_both false w x y z t f g e = g e
 
@@ -199,7 +325,7 @@ option_take : (mark : ℕ) (kind other : TokenKind) (cut : Bool) (at n i : ℕ) 
 unfolding after_option
 option_take mark kind other cut at n i (Some e) bs x l r h =
     let g : at + 1 + e < n = quoted_more mark kind other cut (at + 1) e n bs h in
-    let s : escape_len (take i bs) ≡ Some e = escape_take e i bs x (omega arith) in
+    let s : escape_len (take i bs) ≡ Some e = escape_take e i bs x (omega arith) (omega arith) in
     rw s (r e h)
 option_take mark kind other cut at n i None bs x l r h = absurd (fault_token (cut && length bs == 0) why.NotUtf8 why.BadEscape (at + 1) at n other h)
 
@@ -227,7 +353,7 @@ limited_if : (c : Bool) (other : TokenKind) (m : ℕ) (kind : TokenKind) (n : �
 limited_if true other m kind n e = absurd (cc)
 limited_if false other m kind n e = e
 
-limited_token : (bs : List ℕ) (q : Piece) (kind : TokenKind) (n : ℕ) → limited bs q ≡ p.Token kind n → q ≡ p.Token kind n
+pub limited_token : (bs : List ℕ) (q : Piece) (kind : TokenKind) (n : ℕ) → limited bs q ≡ p.Token kind n → q ≡ p.Token kind n
 limited_token bs (p.Token other m) kind n e = limited_if (nat_lt 255 (length (spelled (between_quotes (take m bs))))) other m kind n e
 limited_token bs (p.Blank m) kind n e = e
 limited_token bs (p.Fault cause m) kind n e = e
@@ -243,18 +369,18 @@ longest_quoted_atom x n (suc j) xs cut kind other h e f =
 -- ---- Characters
 
 -- a `$` character of more than one byte, by its second byte
-behind_dollar : Bool → ℕ → List ℕ → Piece
+unfoldable pub behind_dollar : Bool → ℕ → List ℕ → Piece
 behind_dollar cut b bs = if b == 92 then escaped_character cut (escape_len (drop 2 bs)) (drop 2 bs) else p.Token k.Character (1 + character_len (drop 1 bs))
 
 past_dollar : (c cut : Bool) (y : Piece) (kind : TokenKind) (n : ℕ) → (if c then (if cut then p.Fault why.NotUtf8 1 else p.Fault why.UnexpectedCharacter 0) else y) ≡ p.Token kind n → y ≡ p.Token kind n
 past_dollar true cut y kind n e = absurd (fault_token cut why.NotUtf8 why.UnexpectedCharacter 1 0 n kind e)
 past_dollar false cut y kind n e = e
 
-dollar_is : (cut : Bool) (bs : List ℕ) (kind : TokenKind) (n : ℕ) → character cut bs ≡ p.Token kind n → behind_dollar cut (get_or bs 1 0) bs ≡ p.Token kind n
+pub dollar_is : (cut : Bool) (bs : List ℕ) (kind : TokenKind) (n : ℕ) → character cut bs ≡ p.Token kind n → behind_dollar cut (get_or bs 1 0) bs ≡ p.Token kind n
 unfolding behind_dollar
 dollar_is cut bs kind n e = past_dollar (length bs == 1) cut (behind_dollar cut (get_or bs 1 0) bs) kind n e
 
-escaped_is : (cut : Bool) (o : Option ℕ) (bs : List ℕ) (kind : TokenKind) (n : ℕ) → escaped_character cut o bs ≡ p.Token kind n → (e : ℕ) × (o ≡ Some e) × (e + 2 ≡ n)
+pub escaped_is : (cut : Bool) (o : Option ℕ) (bs : List ℕ) (kind : TokenKind) (n : ℕ) → escaped_character cut o bs ≡ p.Token kind n → (e : ℕ) × (o ≡ Some e) × (e + 2 ≡ n)
 escaped_is cut (Some e) bs kind n h = (e, refl, token_same k.Character kind (e + 2) n h)
 escaped_is cut None bs kind n h = absurd (fault_token (cut && length bs == 0) why.NotUtf8 why.BadEscape 2 1 n kind h)
 
@@ -266,7 +392,7 @@ longest_dollar true b n m bs cut kind other c h e f =
     let j : ℕ = m - 2 in
     let i : 2 + j ≡ m = omega (arith, x.2) in
     let t : drop 2 (take m bs) ≡ take j (drop 2 bs) = ap (λ u. drop 2 (take u bs)) (sym i) ∙ drop-take 2 j bs in
-    let z : escape_len (take j (drop 2 bs)) ≡ Some x.0 = escape_take x.0 j (drop 2 bs) x.1 (omega (arith, x.2)) in
+    let z : escape_len (take j (drop 2 bs)) ≡ Some x.0 = escape_take x.0 j (drop 2 bs) x.1 (omega (arith, x.2)) (omega (arith, x.2)) in
     let w : x.0 ≡ y.0 = some_same x.0 y.0 (sym z ∙ ap escape_len (sym t) ∙ y.1) in
     omega (arith, x.2, y.2, w)
 longest_dollar false b n m bs cut kind other c h e f =
@@ -279,7 +405,7 @@ longest_dollar false b n m bs cut kind other c h e f =
     let w : character_len (drop 1 (take m bs)) ≡ character_len (drop 1 bs) = ap character_len t ∙ z in
     omega (arith, x, y, w)
 
-least_dollar : (c : Bool) (b n : ℕ) (bs : List ℕ) (cut : Bool) (kind : TokenKind) → (b == 92) ≡ c → behind_dollar cut b bs ≡ p.Token kind n → 2 ≤ n
+pub least_dollar : (c : Bool) (b n : ℕ) (bs : List ℕ) (cut : Bool) (kind : TokenKind) → (b == 92) ≡ c → behind_dollar cut b bs ≡ p.Token kind n → 2 ≤ n
 unfolding behind_dollar
 least_dollar true b n bs cut kind c e =
     let x = escaped_is cut (escape_len (drop 2 bs)) (drop 2 bs) kind n (rw c at e) in
@@ -293,3 +419,20 @@ longest_character n m bs cut kind other h e f =
     let l = least_dollar (get_or bs 1 0 == 92) (get_or bs 1 0) n bs cut kind refl a in
     let s : get_or (take m bs) 1 0 ≡ get_or bs 1 0 = get_or-take m bs 1 0 (omega (arith, l)) in
     longest_dollar (get_or bs 1 0 == 92) (get_or bs 1 0) n m bs cut kind other refl h a (ap (λ y. behind_dollar false y (take m bs)) (sym s) ∙ b)
+
+dollar_fits : (c : Bool) (x y n : ℕ) (ys : List ℕ) (cut : Bool) (kind : TokenKind) → (y == 92) ≡ c → behind_dollar cut y (x ∷ y ∷ ys) ≡ p.Token kind n → n ≤ length (x ∷ y ∷ ys)
+unfolding behind_dollar
+dollar_fits true x y n ys cut kind c e =
+    let a : escaped_character cut (escape_len ys) ys ≡ p.Token kind n = rw c at e in
+    let z = escaped_is cut (escape_len ys) ys kind n a in
+    omega (arith, z.2, escape_fits z.0 ys z.1)
+dollar_fits false x y n ys cut kind c e =
+    let a : p.Token k.Character (1 + character_len (y ∷ ys)) ≡ p.Token kind n = rw c at e in
+    omega (arith, token_same k.Character kind (1 + character_len (y ∷ ys)) n a, prefix_len-le-length is_continuation ys)
+
+-- a `$` character ends within the text
+pub character_fits : (x n : ℕ) (xs : List ℕ) (cut : Bool) (kind : TokenKind) → character cut (x ∷ xs) ≡ p.Token kind n → (0 < n) × (n ≤ length (x ∷ xs))
+character_fits x n [] cut kind e = absurd (fault_token cut why.NotUtf8 why.UnexpectedCharacter 1 0 n kind e)
+character_fits x n (y ∷ ys) cut kind e =
+    let a = dollar_is cut (x ∷ y ∷ ys) kind n e in
+    (omega (arith, least_dollar (y == 92) y n (x ∷ y ∷ ys) cut kind refl a), dollar_fits (y == 92) x y n ys cut kind refl a)

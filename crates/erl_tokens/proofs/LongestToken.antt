@@ -17,16 +17,12 @@ use Rattle.erl_syntax.specs.Characters.{is_digit, number}
 use Rattle.erl_syntax.specs.Spellings.{spelling, begins_with, is_spelled}
 use Rattle.erl_syntax.specs.Tokens.{piece, white_len, comment, comment_len, begins_name, name, named, name_kind, is_name, integer_at, integer, decimal, based, is_based, digits_len, goes_on, character, string, quoted_atom, mark, marked, full_stop, ends_form}
 use Rattle.erl_tokens.specs.Longest.{IsToken}
-use Rattle.erl_tokens.proofs.FoundMark.{mark_within}
-use Rattle.erl_tokens.proofs.LongestQuote.{longest_character, longest_string, longest_quoted_atom}
+use Rattle.erl_tokens.proofs.FoundMark.{mark_within, mark_stands, and_left, and_right}
+use Rattle.erl_tokens.proofs.LongestQuote.{token_same, longest_character, longest_string, longest_quoted_atom}
 use Rattle.erl_tokens.proofs.IntegerValues.{prefix_take, take_take, digits_more}
 
--- the piece is a token of at most n bytes, if it is a token
-abbrev UpTo : ℕ → Piece → Type 0
-UpTo n q = (kind : TokenKind) (m : ℕ) → q ≡ p.Token kind m → m ≤ n
-
 -- the piece is a token of n bytes, if it is a token
-abbrev Just : ℕ → Piece → Type 0
+abbrev pub Just : ℕ → Piece → Type 0
 Just n q = (kind : TokenKind) (m : ℕ) → q ≡ p.Token kind m → m ≡ n
 
 just_fault : (n : ℕ) (cause : LexCause) (at : ℕ) → Just n (p.Fault cause at)
@@ -48,7 +44,7 @@ just_named : (o : Option TokenKind) (word : List ℕ) → Just (length word) (na
 just_named (Some kind) word = just_token (length word) kind
 just_named None word = just_if (length word) (is_ascii_lowercase (get_or word 0 0) && nat_lt 255 (length word)) _ _ (just_fault (length word) why.AtomTooLong 0) (just_token (length word) (name_kind word))
 
-just_name : (bs : List ℕ) → Just (length (take (1 + prefix_len is_name (drop 1 bs)) bs)) (name bs)
+pub just_name : (bs : List ℕ) → Just (length (take (1 + prefix_len is_name (drop 1 bs)) bs)) (name bs)
 just_name bs = let word : List ℕ = take (1 + prefix_len is_name (drop 1 bs)) bs in just_named (find (is_spelled word) RESERVED) word
 
 longest_name : (x n m : ℕ) (xs : List ℕ) (kind other : TokenKind) → n < m → m ≤ length (x ∷ xs) → name (x ∷ xs) ≡ p.Token kind n → name (take m (x ∷ xs)) ≡ p.Token other m → ⊥
@@ -64,15 +60,15 @@ longest_name x n (suc j) xs kind other h l e f =
 
 -- ---- Integers
 
-just_integer : (value len : ℕ) → Just len (integer value len)
+pub just_integer : (value len : ℕ) → Just len (integer value len)
 just_integer value len = just_if len (nat_lt value (2 ^ 127)) _ _ (just_token len k.Integer) (just_fault len why.IntegerTooWide 0)
 
-just_decimal : (bs : List ℕ) → Just (1 + digits_len 10 (drop 1 bs)) (decimal bs)
+pub just_decimal : (bs : List ℕ) → Just (1 + digits_len 10 (drop 1 bs)) (decimal bs)
 just_decimal bs =
     let n : ℕ = 1 + digits_len 10 (drop 1 bs) in
     just_if n (get_or bs n 0 == 46 && is_digit 10 (get_or bs (n + 1) 0)) _ _ (just_fault n why.Float 0) (just_integer (number 10 (take n bs)) n)
 
-just_based : (base len : ℕ) (bs : List ℕ) → Just (len + (1 + digits_len base (drop 1 bs))) (based base len bs)
+pub just_based : (base len : ℕ) (bs : List ℕ) → Just (len + (1 + digits_len base (drop 1 bs))) (based base len bs)
 just_based base len bs =
     let n : ℕ = 1 + digits_len base (drop 1 bs) in
     just_if (len + n) (is_based base bs) _ _ (just_integer (number base (take n bs)) (len + n)) (just_fault (len + n) why.BadNumber 0)
@@ -83,15 +79,7 @@ less_by base x ys zs true true e f h r = rw (e, f) (omega (arith, r))
 less_by base x ys zs true false e f h r = absurd (let g : false ≡ true = h refl in cc)
 less_by base x ys zs false d e f h r = rw e (omega arith)
 
-and_left : (a b : Bool) → (a && b) ≡ true → a ≡ true
-and_left true b e = refl
-and_left false b e = e
-
-and_right : (a b : Bool) → (a && b) ≡ true → b ≡ true
-and_right true b e = e
-and_right false b e = absurd (cc)
-
-no_digit : (base : ℕ) → base ≤ 36 → nat_lt 36 base ≡ true → ⊥
+pub no_digit : (base : ℕ) → base ≤ 36 → nat_lt 36 base ≡ true → ⊥
 no_digit base h e = let i : 36 < base = grind (arith, common_steps) in omega arith
 
 go_less_by : (base x : ℕ) (c : Bool) (zs : List ℕ) → base ≤ 36 → is_digit base x ≡ c → goes_on base x 0 ≡ true → goes_on base x (get_or zs 0 0) ≡ true
@@ -119,15 +107,15 @@ small_by base rest e =
     let f : nat_le base 36 ≡ true = and_right (nat_le 2 base) (nat_le base 36) (and_left (nat_le 2 base && nat_le base 36) rest e) in
     grind (arith, common_steps)
 
-chosen : (c : Bool) (x : Piece) (cause : LexCause) (kind : TokenKind) (n : ℕ) → (if c then x else p.Fault cause 0) ≡ p.Token kind n → c ≡ true
+pub chosen : (c : Bool) (x : Piece) (cause : LexCause) (kind : TokenKind) (n : ℕ) → (if c then x else p.Fault cause 0) ≡ p.Token kind n → c ≡ true
 chosen true x cause kind n e = refl
 chosen false x cause kind n e = absurd (cc)
 
-small_base : (base len n : ℕ) (bs : List ℕ) (kind : TokenKind) → based base len bs ≡ p.Token kind n → base ≤ 36
+pub small_base : (base len n : ℕ) (bs : List ℕ) (kind : TokenKind) → based base len bs ≡ p.Token kind n → base ≤ 36
 small_base base len n bs kind e = small_by base (is_digit base (get_or bs 0 0)) (chosen (is_based base bs) _ why.BadNumber kind n e)
 
 -- the integer by what stands behind its first digits
-integer_by : Bool → ℕ → List ℕ → Piece
+unfoldable pub integer_by : Bool → ℕ → List ℕ → Piece
 integer_by c d bs = if c then based (number 10 (take d bs)) (d + 1) (drop (d + 1) bs) else decimal bs
 
 longer_based : (d n m : ℕ) (bs : List ℕ) (kind other : TokenKind) → n < m → d + 1 ≤ n → integer_by true d bs ≡ p.Token kind n → integer_by true d (take m bs) ≡ p.Token other m → ⊥
@@ -152,7 +140,7 @@ longer_integer : (c : Bool) (d n m : ℕ) (bs : List ℕ) (kind other : TokenKin
 longer_integer true d n m bs kind other h l r e f = longer_based d n m bs kind other h (r refl) e f
 longer_integer false d n m bs kind other h l r e f = longer_decimal d n m bs kind other h e f
 
-least_by : (c : Bool) (n : ℕ) (bs : List ℕ) (kind : TokenKind) → integer_by c (1 + prefix_len (is_digit 10) (drop 1 bs)) bs ≡ p.Token kind n →
+pub least_by : (c : Bool) (n : ℕ) (bs : List ℕ) (kind : TokenKind) → integer_by c (1 + prefix_len (is_digit 10) (drop 1 bs)) bs ≡ p.Token kind n →
     (1 + prefix_len (is_digit 10) (drop 1 bs) ≤ n) × (c ≡ true → 1 + prefix_len (is_digit 10) (drop 1 bs) + 1 ≤ n)
 unfolding integer_by
 least_by true n bs kind e =
@@ -163,7 +151,7 @@ least_by false n bs kind e =
     let j = just_decimal bs kind n e in
     (omega (arith, j, digits_more 10 (drop 1 bs)), λ y. absurd (cc))
 
-integer_is : (bs : List ℕ) → integer_at bs ≡ integer_by (get_or bs (1 + prefix_len (is_digit 10) (drop 1 bs)) 0 == 35) (1 + prefix_len (is_digit 10) (drop 1 bs)) bs
+pub integer_is : (bs : List ℕ) → integer_at bs ≡ integer_by (get_or bs (1 + prefix_len (is_digit 10) (drop 1 bs)) 0 == 35) (1 + prefix_len (is_digit 10) (drop 1 bs)) bs
 unfolding integer_by
 integer_is bs = refl
 
@@ -194,7 +182,7 @@ record StandsAt (kinds : List TokenKind) (kind : TokenKind) : Type 0 where
   within : at < length kinds
   is : get_or kinds at k.Atom ≡ kind
 
-kind_same : (kind found : TokenKind) → Some kind ≡ Some found → kind ≡ found
+pub kind_same : (kind found : TokenKind) → Some kind ≡ Some found → kind ≡ found
 kind_same kind found e = cc
 
 stands_by : (q : TokenKind → Bool) (kind found : TokenKind) (kinds : List TokenKind) (c : Bool) → q kind ≡ c → (find q kinds ≡ Some found → StandsAt kinds found) → find q (kind ∷ kinds) ≡ Some found → StandsAt (kind ∷ kinds) found
@@ -223,20 +211,19 @@ passes_by q kind found kinds true c r e =
     ap q (sym (kind_same kind found s)) ∙ c
 passes_by q kind found kinds false c r e = r (rw c at e)
 
-passes : (q : TokenKind → Bool) (found : TokenKind) (kinds : List TokenKind) → find q kinds ≡ Some found → q found ≡ true
+pub passes : (q : TokenKind → Bool) (found : TokenKind) (kinds : List TokenKind) → find q kinds ≡ Some found → q found ≡ true
 passes q found [] e = absurd (cc)
 passes q found (kind ∷ kinds) e = passes_by q kind found kinds (q kind) refl (passes q found kinds) e
 
-token_same : (kind other : TokenKind) (m n : ℕ) → p.Token kind m ≡ p.Token other n → m ≡ n
-token_same kind other m n e = cc
-
--- a mark of m bytes with which the first m bytes of a text begin stands in the text
-begins_too : (m : ℕ) (bs : List ℕ) (kind : TokenKind) → length (spelling kind) ≡ m → begins_with (take m bs) kind ≡ true → begins_with bs kind ≡ true
-begins_too m bs kind l e =
-    let s : take (length (spelling kind)) (take m bs) ≡ take (length (spelling kind)) bs = take_take (length (spelling kind)) m bs (omega (arith, l)) in
+-- where the first n bytes begin with a mark, so does the text
+pub begins_too : (n : ℕ) (bs : List ℕ) (kind : TokenKind) → begins_with (take n bs) kind ≡ true → begins_with bs kind ≡ true
+begins_too n bs kind e =
+    let a : length (spelling kind) ≡ length (take (length (spelling kind)) (take n bs)) = ap length (mark_stands (take n bs) kind e) in
+    let l : length (spelling kind) ≤ n = omega (arith, a, length-take (length (spelling kind)) (take n bs), length-take n bs) in
+    let s : take (length (spelling kind)) (take n bs) ≡ take (length (spelling kind)) bs = take_take (length (spelling kind)) n bs l in
     ap (pointwise (λ a b. a == b) (spelling kind)) (sym s) ∙ e
 
-full_stop_is : (cut : Bool) (bs : List ℕ) (kind : TokenKind) (n : ℕ) → full_stop cut bs ≡ p.Token kind n → n ≡ 1
+pub full_stop_is : (cut : Bool) (bs : List ℕ) (kind : TokenKind) (n : ℕ) → full_stop cut bs ≡ p.Token kind n → n ≡ 1
 full_stop_is cut bs kind n e =
     just_if 1 (get_or bs 0 0 == 46 && ends_form cut (drop 1 bs)) (p.Token k.FullStop 1) (p.Fault why.UnexpectedCharacter 0) (just_token 1 k.FullStop) (just_fault 1 why.UnexpectedCharacter 0) kind n e
 
@@ -245,13 +232,13 @@ longest_against : (law : LongestFirst) (n m : ℕ) (bs : List ℕ) (cut : Bool) 
     length (spelling found) ≡ m → marked o cut bs ≡ p.Token kind n → ⊥
 longest_against law n m bs cut kind found (Some mine) x h y l e =
     let s = stands (begins_with (take m bs)) found MARKS y in
-    let b : begins_with bs found ≡ true = begins_too m bs found l (passes (begins_with (take m bs)) found MARKS y) in
+    let b : begins_with bs found ≡ true = begins_too m bs found (passes (begins_with (take m bs)) found MARKS y) in
     let c : begins_with bs (get_or MARKS s.at k.Atom) ≡ true = ap (begins_with bs) s.is ∙ b in
     let i : length (spelling mine) ≡ n = token_same mine kind (length (spelling mine)) n e in
     omega (arith, law bs mine x s.at k.Atom s.within c, ap (λ z. length (spelling z)) s.is, l, i)
 longest_against law n m bs cut kind found None x h y l e =
     let s = stands (begins_with (take m bs)) found MARKS y in
-    let b : begins_with bs found ≡ true = begins_too m bs found l (passes (begins_with (take m bs)) found MARKS y) in
+    let b : begins_with bs found ≡ true = begins_too m bs found (passes (begins_with (take m bs)) found MARKS y) in
     none_stands (begins_with bs) MARKS x s.at s.within (ap (begins_with bs) s.is ∙ b)
 
 least_mark : (bs : List ℕ) (cut : Bool) (kind : TokenKind) (n : ℕ) (o : Option TokenKind) → IfSome o (λ mine. (0 < length (spelling mine)) × (length (spelling mine) ≤ length bs)) → marked o cut bs ≡ p.Token kind n → 0 < n
@@ -270,7 +257,7 @@ longest_marks law n m bs cut kind other h e f = longest_by law n m bs cut kind o
 
 -- ---- All tokens
 
-past_blank : (c : Bool) (at : ℕ) (y : Piece) (kind : TokenKind) (n : ℕ) → (if c then p.Blank at else y) ≡ p.Token kind n → y ≡ p.Token kind n
+pub past_blank : (c : Bool) (at : ℕ) (y : Piece) (kind : TokenKind) (n : ℕ) → (if c then p.Blank at else y) ≡ p.Token kind n → y ≡ p.Token kind n
 past_blank true at y kind n e = absurd (cc)
 past_blank false at y kind n e = e
 
@@ -278,11 +265,11 @@ blank_or_fault : (c : Bool) (at : ℕ) (kind : TokenKind) (n : ℕ) → (if c th
 blank_or_fault true at kind n e = cc
 blank_or_fault false at kind n e = cc
 
-no_comment : (cut : Bool) (bs : List ℕ) (kind : TokenKind) (n : ℕ) → comment cut bs ≡ p.Token kind n → ⊥
+pub no_comment : (cut : Bool) (bs : List ℕ) (kind : TokenKind) (n : ℕ) → comment cut bs ≡ p.Token kind n → ⊥
 no_comment cut bs kind n e = blank_or_fault (cut && comment_len bs == length bs) (comment_len bs) kind n e
 
 -- what stands at the front where no white space does, by the first byte
-by_first : ℕ → Bool → List ℕ → Piece
+unfoldable pub by_first : ℕ → Bool → List ℕ → Piece
 by_first b cut bs =
     if b == 37 then comment cut bs
     else (if begins_name b then name bs
@@ -292,7 +279,7 @@ by_first b cut bs =
     else (if b == 39 then quoted_atom cut bs
     else mark cut bs)))))
 
-first_is : (cut : Bool) (bs : List ℕ) (kind : TokenKind) (n : ℕ) → piece cut bs ≡ p.Token kind n → by_first (get_or bs 0 0) cut bs ≡ p.Token kind n
+pub first_is : (cut : Bool) (bs : List ℕ) (kind : TokenKind) (n : ℕ) → piece cut bs ≡ p.Token kind n → by_first (get_or bs 0 0) cut bs ≡ p.Token kind n
 unfolding piece by_first
 first_is cut bs kind n e = past_blank (nat_lt 0 (white_len bs)) (white_len bs) (by_first (get_or bs 0 0) cut bs) kind n e
 

@@ -77,9 +77,10 @@ pub fn one_reading()
     ensures { (text : List ℕ) (s t : List Token) (f g : Option LexFault) → Lexes text s f → Lexes text t g → (s ≡ t) × (f ≡ g) }
 {}
 
-/// Where a token stands at the front of a text, no longer front of the text is a token by itself.
+/// The token that stands at the front of a text lies within it and is a token by itself, and no longer front of the text is.
 pub fn longest_token()
-    ensures { (cut : Bool) (bs : List ℕ) (kind other : TokenKind) (n m : ℕ) → piece cut bs ≡ Piece.Token kind n → n < m → m ≤ length bs → IsToken other (take m bs) → ⊥ }
+    ensures itself { (cut : Bool) (bs : List ℕ) (kind : TokenKind) (n : ℕ) → piece cut bs ≡ Piece.Token kind n → (0 < n) × (n ≤ length bs) × IsToken kind (take n bs) }
+    ensures longest { (cut : Bool) (bs : List ℕ) (kind other : TokenKind) (n m : ℕ) → piece cut bs ≡ Piece.Token kind n → n < m → m ≤ length bs → IsToken other (take m bs) → ⊥ }
 {
     longest_mark_first();
 }

@@ -1,5 +1,6 @@
 use Rattle.erl_tokens.proofs.LongestToken.{longest}
+use Rattle.erl_tokens.proofs.TokenItself.{itself}
 use Rattle.erl_tokens.proofs.lexing.longest_token.Goals as goal
 
 pub returns : goal.returns
-returns c = longest c.longest_mark_first.ensures
+returns c = record { itself = itself; longest = longest c.longest_mark_first.ensures }
