@@ -11,6 +11,7 @@ mod segment;
 mod span;
 mod text;
 mod token;
+mod typing;
 
 pub use clause::{Alt, Branch, Guard, Item};
 pub use expr::{Expr, Op, Prefix};
@@ -22,6 +23,7 @@ pub use segment::{Segment, Spec};
 pub use span::Span;
 pub use text::Text;
 pub use token::{LexCause, LexFault, MARKS, Piece, RESERVED, Token, TokenKind, longest_mark_first};
+pub use typing::{Kind, SegFault, SideUse, SizeUse, SpecKind, Typed};
 
 #[cfg(test)]
 mod tests;
