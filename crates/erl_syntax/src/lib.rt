@@ -1,6 +1,8 @@
 //! The syntax of modules: places in a text, texts, lists and trees, which all layers above share.
 #![tactic(auto)]
 
+mod built_in;
+mod checking;
 mod clause;
 mod expr;
 mod listed;
@@ -13,6 +15,8 @@ mod text;
 mod token;
 mod typing;
 
+pub use built_in::{BUILT_INS, BuiltIn};
+pub use checking::{CheckCause, CheckFault, VarUse};
 pub use clause::{Alt, Branch, Guard, Item};
 pub use expr::{Expr, Op, Prefix};
 pub use listed::Listed;
