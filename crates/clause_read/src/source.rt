@@ -1,4 +1,4 @@
-ghost use Rattle.std.specs.Prelude.{◌≡◌, ◌≤◌, ◌<◌, ◌+◌, ◌^◌, ◌∷◌, [], List, length, drop, pos, false, IsTrue, IfOk, IfSome, OnSome, MatchOption};
+ghost use Rattle.std.specs.Prelude.{◌≡◌, ◌≤◌, ◌<◌, ◌+◌, ◌^◌, ◌↔◌, ◌∷◌, [], List, length, drop, pos, false, IsTrue, IfOk, IfSome, OnSome, MatchOption};
 ghost use Rattle.std.specs.Prelude.{All};
 ghost use Rattle.clause_read.specs.Source.{StandsAt, IsSound, words};
 ghost use Rattle.clause_read.specs.Wanted.{IsAt, AtomAt, ModuleAt, NoMark, NoModule, FirstCause, mark_in};
@@ -37,6 +37,22 @@ impl Numbered {
     {
         self.value as i128
     }
+
+    /// Whether the value is below 2^127 and the token stands in the text.
+    fn is_sound(&self, text: &[u8]) -> bool
+        ensures { IsTrue result ↔ IsSound text.now self.now }
+    {
+        self.value < 1 << 127
+            && self.token.from <= self.token.to
+            && self.token.to as usize <= text.len()
+    }
+}
+
+/// Whether tokens are those of a text, as `Source::of` asks: each stands in it, and its value is below 2^127.
+pub fn are_sound(text: &[u8], tokens: &[Numbered]) -> bool
+    ensures { IsTrue result ↔ All (IsSound text.now) tokens.now }
+{
+    tokens.iter().all(|numbered| numbered.is_sound(text))
 }
 
 impl Model for Source {
