@@ -1,0 +1,4 @@
+pub mod Atoms
+pub mod Order
+pub mod Terms
+pub mod Value
