@@ -1,3 +1,4 @@
+pub mod Arithmetic
 pub mod Atoms
 pub mod Order
 pub mod Terms

@@ -1,6 +1,10 @@
 //! Values of the language as terms over references to bitstrings: their order, arithmetic, sizes and texts.
 #![tactic(auto)]
 
+mod arithmetic;
+mod computed;
 mod term;
 
+pub use arithmetic::arith;
+pub use computed::Arith;
 pub use term::{Items, Term};
