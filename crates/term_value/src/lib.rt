@@ -3,8 +3,10 @@
 
 mod arithmetic;
 mod computed;
+mod entry;
 mod term;
 
 pub use arithmetic::arith;
 pub use computed::Arith;
+pub use entry::Entry;
 pub use term::{Items, Term};
