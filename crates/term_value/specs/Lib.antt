@@ -22,3 +22,4 @@ pub mod Step
 pub mod Terms
 pub mod Tree
 pub mod Value
+pub mod Worked

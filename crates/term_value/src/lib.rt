@@ -4,6 +4,7 @@
 mod arithmetic;
 mod computed;
 mod entry;
+mod rows;
 mod term;
 
 pub use arithmetic::arith;
