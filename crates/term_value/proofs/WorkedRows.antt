@@ -2,6 +2,7 @@
 use Rattle.std.proofs.Common.{◌≡◌, refl}
 use Rattle.bits_value.specs.Bits.{bit_of}
 use Rattle.bits_value.specs.Number.{big_bits, little_bits, reordered}
+use Rattle.term_value.specs.WorkedRuns.{GeneratorSkips, RowsCost, LastRowIsFree, GeneratorDrops}
 use Rattle.term_value.specs.Worked.{KeepsLowestBits, LittleBuilds, LittleMatches, PrefixMatches, PrefixTooLong, NegativeSizeFails, NegativeSizeRaises, TooLongBuild, WrongKindFirst, ShortPart, WideSkips, WideLimits, WideSigned, PairBuilds, PairMatches, OverlongFails, EuroMatches, RepeatCompares, LiteralLimit}
 
 pub keeps_lowest_bits : KeepsLowestBits
@@ -79,3 +80,19 @@ repeat_compares = refl
 pub literal_limit : LiteralLimit
 unfolding big_bits bit_of little_bits reordered
 literal_limit = refl
+
+pub generator_skips : GeneratorSkips
+unfolding big_bits bit_of little_bits reordered
+generator_skips = refl
+
+pub rows_cost : RowsCost
+unfolding big_bits bit_of little_bits reordered
+rows_cost = refl
+
+pub last_row_is_free : LastRowIsFree
+unfolding big_bits bit_of little_bits reordered
+last_row_is_free = refl
+
+pub generator_drops : GeneratorDrops
+unfolding big_bits bit_of little_bits reordered
+generator_drops = refl

@@ -23,3 +23,4 @@ pub mod Terms
 pub mod Tree
 pub mod Value
 pub mod Worked
+pub mod WorkedRuns

@@ -5,6 +5,7 @@ mod arithmetic;
 mod computed;
 mod entry;
 mod rows;
+mod runs;
 mod term;
 
 pub use arithmetic::arith;
