@@ -1,2 +1,4 @@
 pub mod Bitwise
 pub mod Shifts
+pub mod Values
+pub mod Measures

@@ -3,8 +3,12 @@
 
 mod arithmetic;
 mod computed;
+mod look;
+mod measure;
 mod term;
 
 pub use arithmetic::arith;
 pub use computed::Arith;
+pub use look::Look;
+pub use measure::{depth, weight};
 pub use term::{Items, Term};
