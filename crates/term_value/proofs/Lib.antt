@@ -1,3 +1,5 @@
 pub mod Bitwise
 pub mod Shifts
 pub mod WorkedRows
+pub mod Values
+pub mod Measures

@@ -2,7 +2,7 @@
 use Rattle.std.proofs.Common.{◌≡◌, refl}
 use Rattle.bits_value.specs.Bits.{bit_of}
 use Rattle.bits_value.specs.Number.{big_bits, little_bits, reordered}
-use Rattle.term_value.specs.WorkedRuns.{GeneratorSkips, RowsCost, LastRowIsFree, GeneratorDrops}
+use Rattle.term_value.specs.WorkedRuns.{BadGenerator, BadFilter, GeneratorsNest, RowNoBitstring, AndAlsoRaises, OrElseGives, BadMatch, NoCase, NoIf, ImproperList, GuardHides, GuardLimits, GuardFails, ActCosts, NoReceiver, GeneratorSkips, RowsCost, LastRowIsFree, GeneratorDrops}
 use Rattle.term_value.specs.Worked.{KeepsLowestBits, LittleBuilds, LittleMatches, PrefixMatches, PrefixTooLong, NegativeSizeFails, NegativeSizeRaises, TooLongBuild, WrongKindFirst, ShortPart, WideSkips, WideLimits, WideSigned, PairBuilds, PairMatches, OverlongFails, EuroMatches, RepeatCompares, LiteralLimit}
 
 pub keeps_lowest_bits : KeepsLowestBits
@@ -96,3 +96,48 @@ last_row_is_free = refl
 pub generator_drops : GeneratorDrops
 unfolding big_bits bit_of little_bits reordered
 generator_drops = refl
+
+pub bad_generator : BadGenerator
+bad_generator = refl
+
+pub bad_filter : BadFilter
+bad_filter = refl
+
+pub generators_nest : GeneratorsNest
+generators_nest = refl
+
+pub row_no_bitstring : RowNoBitstring
+row_no_bitstring = refl
+
+pub and_also_raises : AndAlsoRaises
+and_also_raises = refl
+
+pub or_else_gives : OrElseGives
+or_else_gives = refl
+
+pub bad_match : BadMatch
+bad_match = refl
+
+pub no_case : NoCase
+no_case = refl
+
+pub no_if : NoIf
+no_if = refl
+
+pub improper_list : ImproperList
+improper_list = refl
+
+pub guard_hides : GuardHides
+guard_hides = refl
+
+pub guard_limits : GuardLimits
+guard_limits = refl
+
+pub guard_fails : GuardFails
+guard_fails = refl
+
+pub act_costs : ActCosts
+act_costs = refl
+
+pub no_receiver : NoReceiver
+no_receiver = refl

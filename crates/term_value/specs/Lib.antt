@@ -11,9 +11,11 @@ pub mod Local
 pub mod Machine
 pub mod Match
 pub mod Operators
+pub mod Orders
 pub mod Order
 pub mod Primitives
 pub mod PutIn
+pub mod Reports
 pub mod Result
 pub mod Rows
 pub mod Segment

@@ -4,6 +4,8 @@
 mod arithmetic;
 mod computed;
 mod entry;
+mod look;
+mod measure;
 mod rows;
 mod runs;
 mod term;
@@ -11,4 +13,6 @@ mod term;
 pub use arithmetic::arith;
 pub use computed::Arith;
 pub use entry::Entry;
+pub use look::Look;
+pub use measure::{depth, weight};
 pub use term::{Items, Term};

@@ -21,62 +21,77 @@ fn generator_drops()
     ensures { GeneratorDrops }
 {}
 
+#[tactic(auto, using(crate::proofs::WorkedRows::generators_nest))]
 fn generators_nest()
     ensures { GeneratorsNest }
 {}
 
+#[tactic(auto, using(crate::proofs::WorkedRows::bad_generator))]
 fn bad_generator()
     ensures { BadGenerator }
 {}
 
+#[tactic(auto, using(crate::proofs::WorkedRows::bad_filter))]
 fn bad_filter()
     ensures { BadFilter }
 {}
 
+#[tactic(auto, using(crate::proofs::WorkedRows::row_no_bitstring))]
 fn row_no_bitstring()
     ensures { RowNoBitstring }
 {}
 
+#[tactic(auto, using(crate::proofs::WorkedRows::and_also_raises))]
 fn and_also_raises()
     ensures { AndAlsoRaises }
 {}
 
+#[tactic(auto, using(crate::proofs::WorkedRows::or_else_gives))]
 fn or_else_gives()
     ensures { OrElseGives }
 {}
 
+#[tactic(auto, using(crate::proofs::WorkedRows::bad_match))]
 fn bad_match()
     ensures { BadMatch }
 {}
 
+#[tactic(auto, using(crate::proofs::WorkedRows::no_case))]
 fn no_case()
     ensures { NoCase }
 {}
 
+#[tactic(auto, using(crate::proofs::WorkedRows::no_if))]
 fn no_if()
     ensures { NoIf }
 {}
 
+#[tactic(auto, using(crate::proofs::WorkedRows::improper_list))]
 fn improper_list()
     ensures { ImproperList }
 {}
 
+#[tactic(auto, using(crate::proofs::WorkedRows::guard_hides))]
 fn guard_hides()
     ensures { GuardHides }
 {}
 
+#[tactic(auto, using(crate::proofs::WorkedRows::guard_limits))]
 fn guard_limits()
     ensures { GuardLimits }
 {}
 
+#[tactic(auto, using(crate::proofs::WorkedRows::guard_fails))]
 fn guard_fails()
     ensures { GuardFails }
 {}
 
+#[tactic(auto, using(crate::proofs::WorkedRows::act_costs))]
 fn act_costs()
     ensures { ActCosts }
 {}
 
+#[tactic(auto, using(crate::proofs::WorkedRows::no_receiver))]
 fn no_receiver()
     ensures { NoReceiver }
 {}
