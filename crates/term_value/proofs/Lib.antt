@@ -3,3 +3,4 @@ pub mod Shifts
 pub mod WorkedRows
 pub mod Values
 pub mod Measures
+pub mod Completion

@@ -4,6 +4,7 @@
 mod arithmetic;
 mod computed;
 mod entry;
+mod laws;
 mod look;
 mod measure;
 mod rows;
@@ -13,6 +14,7 @@ mod term;
 pub use arithmetic::arith;
 pub use computed::Arith;
 pub use entry::Entry;
+pub use laws::complete_is_last;
 pub use look::Look;
 pub use measure::{depth, weight};
 pub use term::{Items, Term};
