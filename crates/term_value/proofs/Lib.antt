@@ -4,3 +4,4 @@ pub mod WorkedRows
 pub mod Values
 pub mod Measures
 pub mod Completion
+pub mod Smaller
