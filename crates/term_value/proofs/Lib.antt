@@ -5,3 +5,5 @@ pub mod Values
 pub mod Measures
 pub mod Completion
 pub mod Smaller
+pub mod Shrinks
+pub mod Finishes

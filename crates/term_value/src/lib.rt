@@ -14,7 +14,7 @@ mod term;
 pub use arithmetic::arith;
 pub use computed::Arith;
 pub use entry::Entry;
-pub use laws::complete_is_last;
+pub use laws::{complete_is_last, each_asks};
 pub use look::Look;
 pub use measure::{depth, weight};
 pub use term::{Items, Term};
