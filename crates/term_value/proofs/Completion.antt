@@ -1,7 +1,7 @@
 -- After a complete order no process runs, and none is over and not yet gone.
 use Rattle.std.proofs.Common.{List, [], ◌∷◌, ℕ, zero, suc, ◌-◌, ◌≡◌, ◌⊎◌, inl, inr, Some, None, refl, ap, subst}
 use Rattle.std.specs.Prelude.{slice_get}
-use Rattle.term_value.specs.Machine.{End, Machine, Process, Running, Over, Left, Legal, after, AllGone, IsComplete, ask_at, ask_of_process, Ends, SendsTo, Shows, Starts, Waits, Runs, IsOver}
+use Rattle.term_value.specs.Machine.{End, Machine, Process, Running, Over, Left, Legal, after, AllGone, ask_at, ask_of_process, Ends, SendsTo, Shows, Starts, Waits, Runs, IsOver}
 use Rattle.term_value.specs.Laws.{CompleteIsLast}
 use Rattle.term_value.specs.declared.entry.Entry.{Entry}
 use Rattle.term_value.specs.declared.entry.Entry.TheVariants.{Sent, Saw, Shown, Started, Full, Ended, Stopped, Gone}

@@ -1,12 +1,12 @@
 -- A local state comes to an ask: it never stays unfinished.
-use Rattle.std.proofs.Common.{◌≡◌, ◌⊎◌, inl, inr, ℕ, zero, suc, Bool, true, false, ◌+◌, ◌-◌, ◌<◌, ◌≤◌, List, [], ◌∷◌, refl, arith}
+use Rattle.std.proofs.Common.{◌≡◌, ◌⊎◌, inl, inr, ℕ, zero, suc, Bool, true, false, ◌<◌, ◌≤◌, List, [], ◌∷◌, refl, arith}
 use Rattle.std.specs.Prelude.{nat_lt}
 use Rattle.term_value.specs.Value.{Value, more, none}
 use Rattle.term_value.specs.Result.{Stop, Raise, Limit}
 use Rattle.term_value.specs.Tree.{Tree, Clauses, Module}
 use Rattle.term_value.specs.Match.{Picked, Body, NoClause, PickLimit, picked}
 use Rattle.term_value.specs.Step.{World, setting, Step, Ready, Goes, Falls, Asks, Looks, step}
-use Rattle.term_value.specs.Local.{Local, Course, At, Fell, world, Seen, Takes, NoMessage, SeenLimit, kept_before, takes, looked, charged, spent, Next, On, Asking, ForMore, Done, Raised, is_normal, raised_where, ended, if_left, of_seen, of_step, of_course, next_of, size_of, size_of_clauses, size_of_course, Outcome, Wants, WantsMore, EndsDone, EndsRaised, Unfinished, on_if, onward, walk, outcome_in, ask_of}
+use Rattle.term_value.specs.Local.{Local, Course, At, Fell, world, Seen, Takes, NoMessage, SeenLimit, kept_before, takes, looked, charged, Next, On, Asking, ForMore, Done, Raised, is_normal, raised_where, ended, if_left, of_seen, of_step, of_course, next_of, size_of, size_of_clauses, size_of_course, Outcome, Unfinished, on_if, onward, walk, outcome_in}
 use Rattle.term_value.specs.Laws.{Finished, EachAsks}
 use Rattle.term_value.proofs.Smaller.{AtMost, picked_small}
 use Rattle.term_value.proofs.Shrinks.{Shrinks, step_shrinks}

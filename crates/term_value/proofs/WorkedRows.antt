@@ -1,5 +1,5 @@
 -- Rows that compute once the bits of a number are unfolded.
-use Rattle.std.proofs.Common.{◌≡◌, refl}
+use Rattle.std.proofs.Common.{refl}
 use Rattle.bits_value.specs.Bits.{bit_of}
 use Rattle.bits_value.specs.Number.{big_bits, little_bits, reordered}
 use Rattle.term_value.specs.WorkedRuns.{BadGenerator, BadFilter, GeneratorsNest, RowNoBitstring, AndAlsoRaises, OrElseGives, BadMatch, NoCase, NoIf, ImproperList, GuardHides, GuardLimits, GuardFails, ActCosts, NoReceiver, GeneratorSkips, RowsCost, LastRowIsFree, GeneratorDrops}

@@ -116,7 +116,11 @@ call_of None vs = Fell (raise a_undef)
 -- a process at its start: the call of a function of the module that is exported, else `undef`
 abbrev pub first_of : Module → ℕ → ℕ → ℕ → ℕ → Values → Local
 first_of code reductions pid module_name function vs = record {
-    pid = pid; course = call_of (exported_in (nat_eq module_name code.name) code function (count vs)) vs; seen = []; left = reductions }
+  pid = pid;
+  course = call_of (exported_in (nat_eq module_name code.name) code function (count vs)) vs;
+  seen = [];
+  left = reductions;
+}
 
 abbrev pub born : Module → ℕ → ℕ → Option Outcome → Process
 born code reductions pid (Some (Wants (Start module_name function vs) next)) = Running (first_of code reductions pid module_name function vs) []

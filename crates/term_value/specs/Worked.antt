@@ -1,5 +1,5 @@
 -- Small bit expressions and patterns, and what they give.
-use Rattle.std.specs.Prelude.{◌≡◌, ℕ, ℤ, pos, negsuc, ◌+◌, Bool, true, false, List, [], ◌∷◌, ◌++◌, codes, Option, Some, None, slice_index_or}
+use Rattle.std.specs.Prelude.{◌≡◌, ℕ, pos, negsuc, Bool, true, false, List, [], ◌∷◌, ◌++◌, codes, slice_index_or}
 use Rattle.std.specs.List.{flat_map}
 use Rattle.bits_value.specs.Number.{big_bits}
 use Rattle.bits_value.specs.declared.Sign.TheVariants.{Unsigned, Signed}
@@ -60,14 +60,19 @@ table = fixed_atoms ++ codes "m" ∷ codes "main" ∷ codes "a" ∷ codes "b" �
 
 abbrev pub a_m : ℕ
 a_m = 15
+
 abbrev pub a_main : ℕ
 a_main = 16
+
 abbrev pub a_a : ℕ
 a_a = 17
+
 abbrev pub a_b : ℕ
 a_b = 18
+
 abbrev pub a_s : ℕ
 a_s = 20
+
 abbrev pub a_c : ℕ
 a_c = 19
 

@@ -1,13 +1,13 @@
 -- Small programs, and what a process asks for or a machine does.
-use Rattle.std.specs.Prelude.{◌≡◌, ℕ, ℤ, pos, negsuc, ◌+◌, Bool, true, false, List, [], ◌∷◌, ◌++◌, codes, Option, Some, None}
+use Rattle.std.specs.Prelude.{◌≡◌, ℕ, true, false, List, [], ◌∷◌, ◌++◌, Option, Some, None}
 use Rattle.erl_syntax.specs.declared.expr.Op.TheVariants as o
-use Rattle.term_value.specs.Value.{Value, VInt, VAtom, VPid, VTuple, VList, VBits, Values, none, more, row}
-use Rattle.term_value.specs.Atoms.{a_badarg, a_badmatch, a_bad_generator, a_bad_filter, a_if_clause, a_case_clause, a_function_clause, a_system_limit, a_reductions, a_undef, a_true, a_false, a_ok}
-use Rattle.term_value.specs.BuiltIn.{Self, BitSize, Exit}
-use Rattle.term_value.specs.Step.{Ask, SendTo, Show, Start}
-use Rattle.term_value.specs.Tree.{Bound, Build, Operate, Native, MakeTuple, MakeList, MakeListOn, Table, Call, Send, Display, Spawn, Variable, Equal, Tree, Val, Var, All, First, Choose, Receive, Gather, Items, Bits, Trees, end, and, Then, Last, Alts, AndAlso, OrElse, Clauses, no_clause, clause, Guard, never, or, Quals, turn, give, from, test, InList, InBits, bottom, Pattern, PWild, PVar, PVal, PTuple, Patterns, no_pattern, pattern_and, Segments, no_segment, segment, Function, Module}
-use Rattle.term_value.specs.Local.{Local, Course, At, Outcome, Wants, WantsMore, EndsDone, EndsRaised, ask_of}
-use Rattle.term_value.specs.Machine.{End, Normal, Exit as Exited, Waiting, Process, Running, Over, Left, Machine, start_of, IsLegal, IsComplete, after}
+use Rattle.term_value.specs.Value.{Value, VAtom, VTuple, VList, VBits, none, more, row}
+use Rattle.term_value.specs.Atoms.{a_badarg, a_badmatch, a_bad_generator, a_bad_filter, a_if_clause, a_case_clause, a_system_limit, a_reductions, a_undef, a_true, a_false, a_ok}
+use Rattle.term_value.specs.BuiltIn.{Self}
+use Rattle.term_value.specs.Step.{Show}
+use Rattle.term_value.specs.Tree.{Build, Operate, Native, MakeTuple, MakeList, MakeListOn, Table, Call, Send, Display, Spawn, Variable, Equal, Tree, Val, Var, All, First, Choose, Receive, Gather, Items, Bits, Trees, end, and, Then, Last, Alts, AndAlso, OrElse, Clauses, no_clause, clause, Guard, never, or, give, from, test, InList, InBits, bottom, Pattern, PWild, PVar, PVal, PTuple, Patterns, no_pattern, pattern_and, Segments, no_segment, segment, Function, Module}
+use Rattle.term_value.specs.Local.{Local, At, Outcome, Wants, EndsDone, EndsRaised, ask_of}
+use Rattle.term_value.specs.Machine.{Normal, Exit as Exited, Waiting, Process, Left, Machine, start_of, IsLegal, IsComplete, after}
 use Rattle.term_value.specs.Worked.{int, number, atom, binary, byte, no_size, table, a_m, a_main, a_a, a_b, a_c, a_s}
 use Rattle.term_value.specs.declared.entry.Entry.{Entry}
 use Rattle.term_value.specs.declared.entry.Entry.TheVariants as e
