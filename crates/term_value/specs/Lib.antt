@@ -3,6 +3,7 @@ pub mod Atoms
 pub mod Bounds
 pub mod BuiltIn
 pub mod BuiltIns
+pub mod Calls
 pub mod Characters
 pub mod Decode
 pub mod Encode
@@ -16,6 +17,7 @@ pub mod Orders
 pub mod Order
 pub mod Primitives
 pub mod PutIn
+pub mod Read
 pub mod Reports
 pub mod Result
 pub mod Rows
@@ -24,6 +26,7 @@ pub mod Setting
 pub mod Step
 pub mod Terms
 pub mod Tree
+pub mod Typing
 pub mod Value
 pub mod Worked
 pub mod WorkedRuns
