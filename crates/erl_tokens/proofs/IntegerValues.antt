@@ -21,7 +21,7 @@ prefix_by q x xs j true e h r =
     rw (e, g) refl
 prefix_by q x xs j false e h r = rw e refl
 
-prefix_take : (q : ℕ → Bool) (xs : List ℕ) (j : ℕ) → prefix_len q xs ≤ j → prefix_len q (take j xs) ≡ prefix_len q xs
+pub prefix_take : (q : ℕ → Bool) (xs : List ℕ) (j : ℕ) → prefix_len q xs ≤ j → prefix_len q (take j xs) ≡ prefix_len q xs
 prefix_take q [] zero h = refl
 prefix_take q [] (suc j) h = refl
 prefix_take q (x ∷ xs) zero h = omega arith
@@ -32,11 +32,11 @@ digits_by : (base x : ℕ) (xs : List ℕ) (c : Bool) → is_digit base x ≡ c 
 digits_by base x xs true e h = rw e (omega arith)
 digits_by base x xs false e h = rw e (omega arith)
 
-digits_more : (base : ℕ) (xs : List ℕ) → prefix_len (is_digit base) xs ≤ digits_len base xs
+pub digits_more : (base : ℕ) (xs : List ℕ) → prefix_len (is_digit base) xs ≤ digits_len base xs
 digits_more base [] = omega arith
 digits_more base (x ∷ xs) = digits_by base x xs (is_digit base x) refl (digits_more base xs)
 
-take_take : (m n : ℕ) (xs : List ℕ) → m ≤ n → take m (take n xs) ≡ take m xs
+pub take_take : (m n : ℕ) (xs : List ℕ) → m ≤ n → take m (take n xs) ≡ take m xs
 take_take zero n xs h = refl
 take_take (suc m) zero xs h = elim h [ ]
 take_take (suc m) (suc n) [] h = refl

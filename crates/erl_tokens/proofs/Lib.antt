@@ -8,3 +8,5 @@ pub mod OneReading
 pub mod IntegerTokens
 pub mod IntegerValues
 pub mod AllValues
+pub mod LongestQuote
+pub mod LongestToken

@@ -1,14 +1,17 @@
-ghost use Rattle.std.specs.Prelude.{◌≡◌, ◌<◌, ◌≤◌, ◌+◌, ◌^◌, length, take, IfOk, IfErr, None, ℕ, List, Option};
+ghost use Rattle.std.specs.Prelude.{◌≡◌, ◌<◌, ◌≤◌, ◌+◌, ◌^◌, length, take, IfOk, IfErr, None, ℕ, List, Option, Bool};
 ghost use Rattle.std.specs.Str.Lossy.{utf8_valid_len};
 ghost use Rattle.erl_syntax.specs.Tokens.{Lexes, LexesFrom, front, is_cut};
 ghost use Rattle.erl_tokens.specs.Cutting.{IsFault};
 ghost use Rattle.erl_tokens.specs.Values.{AllIntegers};
+ghost use Rattle.erl_tokens.specs.Longest.{IsToken};
+ghost use Rattle.erl_syntax.specs.Tokens.{piece};
+ghost use Rattle.erl_syntax.specs.declared.token.TokenKind.{TokenKind};
 ghost use Rattle.erl_syntax.specs.declared.token.Token.{Token};
 ghost use Rattle.erl_syntax.specs.declared.token.LexFault.{LexFault};
 
 use crate::pieces::front_piece;
 use crate::spans::place_after;
-use erl_syntax::{LexCause, LexFault, Piece, Span, Token};
+use erl_syntax::{LexCause, LexFault, Piece, Span, Token, longest_mark_first};
 use std::alloc::Global;
 
 /// The bytes before the first that belongs to no character of UTF-8.
@@ -73,3 +76,10 @@ pub fn tokens(alloc: Global, text: &[u8]) -> Result<Vec<Token>, LexFault>
 pub fn one_reading()
     ensures { (text : List ℕ) (s t : List Token) (f g : Option LexFault) → Lexes text s f → Lexes text t g → (s ≡ t) × (f ≡ g) }
 {}
+
+/// Where a token stands at the front of a text, no longer front of the text is a token by itself.
+pub fn longest_token()
+    ensures { (cut : Bool) (bs : List ℕ) (kind other : TokenKind) (n m : ℕ) → piece cut bs ≡ Piece.Token kind n → n < m → m ≤ length bs → IsToken other (take m bs) → ⊥ }
+{
+    longest_mark_first();
+}

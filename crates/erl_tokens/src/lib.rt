@@ -13,7 +13,7 @@ mod spans;
 mod values;
 
 pub use erl_syntax::{LexCause, LexFault, Token, TokenKind};
-pub use lexing::{one_reading, tokens};
+pub use lexing::{longest_token, one_reading, tokens};
 pub use values::{atom_text, character_number, integer_value, string_characters};
 
 #[cfg(test)]

@@ -1,6 +1,6 @@
 use crate::{
-    LexCause, Token, TokenKind, atom_text, character_number, integer_value, one_reading,
-    string_characters, tokens,
+    LexCause, Token, TokenKind, atom_text, character_number, integer_value, longest_token,
+    one_reading, string_characters, tokens,
 };
 use erl_syntax::{MARKS, RESERVED, Span};
 use std::alloc::Global;
@@ -254,32 +254,35 @@ fn spans_and_slices_of_a_module(rt: HostRuntime) -> Result<(), Fail> {
         b"-module(m).\n-export([main/0]).\nmain() -> <<A:4,B:12>> = <<18,52>>, erlang:display(A), erlang:display(B).\n";
     let found = cut(alloc, text)?;
     assert_eq!(rt; found.len(), 50);
-    assert_eq!(rt; found[7].span, Span { line: 2, column: 2 });
-    assert_eq!(rt;
-        found[19],
-        Token {
-            kind: TokenKind::Arrow,
-            span: Span { line: 3, column: 8 },
-            from: 38,
-            to: 40
-        }
-    );
-    assert_eq!(rt;
-        found[49],
-        Token {
-            kind: TokenKind::FullStop,
-            span: Span {
-                line: 3,
-                column: 73
-            },
-            from: 103,
-            to: 104
-        }
-    );
+    let export = Span { line: 2, column: 2 };
+    assert_eq!(rt; found.get(7).map(|token| token.span), Some(export));
+    let arrow = Token {
+        kind: TokenKind::Arrow,
+        span: Span { line: 3, column: 8 },
+        from: 38,
+        to: 40,
+    };
+    assert_eq!(rt; found.get(19).copied(), Some(arrow));
+    let full_stop = Token {
+        kind: TokenKind::FullStop,
+        span: Span {
+            line: 3,
+            column: 73,
+        },
+        from: 103,
+        to: 104,
+    };
+    assert_eq!(rt; found.last().copied(), Some(full_stop));
     one_reading();
+    longest_token();
     let lines = cut(alloc, b"\"a\n\xC3\xA9\" b % c\nd")?;
-    assert_eq!(rt; lines[1].span, Span { line: 2, column: 4 });
-    assert_eq!(rt; lines[2].span, Span { line: 3, column: 1 });
+    let lines: Vec<Span> = lines.iter().map(|token| token.span).collect(alloc)?;
+    let places = [
+        Span { line: 1, column: 1 },
+        Span { line: 2, column: 4 },
+        Span { line: 3, column: 1 },
+    ];
+    assert_eq!(rt; lines.as_slice(), places.as_slice());
     Ok(())
 }
 
