@@ -1,17 +1,17 @@
 -- From what was read, run and written to the answer of a command.
-use Rattle.std.proofs.Common.{◌≡◌, ◌⊎◌, ℕ, ℤ, ◌+◌, ◌*◌, ◌≤◌, ◌<◌, ◌^◌, List, [], ◌∷◌, ◌++◌, length, Option, Some, None, IfSome, refl, ap, sym, ◌∙◌, inl, inr, arith, codes, decimal, append-nil, length-append, map, All, subst}
+use Rattle.std.proofs.Common.{◌≡◌, ◌⊎◌, ℕ, ◌+◌, ◌≤◌, ◌<◌, List, [], ◌∷◌, ◌++◌, length, Option, Some, None, IfSome, refl, ap, sym, ◌∙◌, inl, inr, arith, codes, decimal, append-nil, length-append, map, subst}
 use Rattle.std.specs.List.{flat_map}
 use Rattle.std.specs.Fmt.{signed_decimal}
 use Rattle.std.proofs.lemmas.Fmt.{decimal_injective}
 use Rattle.std.proofs.lemmas.List.Folds.{flat_map-map}
 use Rattle.std.specs.Io.KnownBytes.{Consumes, IsAtEnd}
-use Rattle.bits_top.specs.Answer.{Port, Held, Faulted, Untouched, IsAccepted, IsTooLong, IsNotBuilt, IsRefusedWith, IsRun, AnswersRefusal, AnswersAccepted, AnswersRun, IsSmooth, IsSmoothRefusal, IsDoneOrNoMemory, IsRefusedOrNoMemory, text_limit}
+use Rattle.bits_top.specs.Answer.{Port, Untouched, IsAccepted, IsRefusedWith, IsRun, AnswersRefusal, AnswersAccepted, AnswersRun, IsSmooth, IsSmoothRefusal, IsDoneOrNoMemory, IsRefusedOrNoMemory, text_limit}
 use Rattle.bits_top.specs.Command.{Spells, SpellsRun}
 use Rattle.bits_top.specs.declared.command.Command.{Command}
 use Rattle.bits_top.specs.declared.command.Command.TheVariants as made
 use Rattle.bits_top.specs.Form.{IsForm}
-use Rattle.bits_top.specs.Machine.{Left, Machine, IsComplete, AllGone}
-use Rattle.bits_top.specs.Runs.{HasRun, start, with_one, end_of}
+use Rattle.bits_top.specs.Machine.{Left, Machine, AllGone}
+use Rattle.bits_top.specs.Runs.{HasRun, end_of}
 use Rattle.bits_top.specs.Texts.{order_text, processes_text, machine_text}
 use Rattle.bits_top.specs.Value.{value_text, VInt}
 use Rattle.bits_top.specs.declared.command.Run.{Run}
@@ -25,7 +25,7 @@ pub run_told : (s : Straight) (r : ℕ) (outcome : Outcome) (order report : List
     report ≡ flat_map (λ n. signed_decimal n ++ codes "\n") outcome.shown ++ processes_text 1 (Left (end_of outcome.ending) ∷ []) → IsRun s r order report
 run_told s r outcome order report h o t =
     let lines : flat_map (λ v. value_text v ++ codes "\n") (map (λ n. VInt n) outcome.shown) ≡ flat_map (λ n. signed_decimal n ++ codes "\n") outcome.shown =
-        flat_map-map (λ v. value_text v ++ codes "\n") (λ n. VInt n) outcome.shown in
+    flat_map-map (λ v. value_text v ++ codes "\n") (λ n. VInt n) outcome.shown in
     record {
       entries = outcome.entries;
       legal = h.legal;

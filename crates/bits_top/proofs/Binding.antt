@@ -1,8 +1,8 @@
 -- Matches of bit patterns with bit expressions.
-use Rattle.std.proofs.Common.{◌≡◌, ℕ, ◌+◌, ◌*◌, ◌≤◌, ◌<◌, ◌^◌, List, [], ◌∷◌, ◌++◌, Bool, true, length, take, drop, map, arith, pos, Some, refl, sym, ap, subst, ◌∙◌, append_assoc, slice_index_or, nat_le, nat_lt, cond}
+use Rattle.std.proofs.Common.{◌≡◌, ℕ, ◌+◌, ◌≤◌, ◌<◌, ◌^◌, List, [], ◌∷◌, ◌++◌, Bool, true, length, take, drop, map, arith, pos, Some, refl, sym, ap, subst, ◌∙◌, append_assoc, slice_index_or, nat_le, nat_lt}
 use Rattle.std.proofs.lemmas.Bool.Decides.{nat_tests}
-use Rattle.std.proofs.lemmas.Grind.{common_steps, flat_map-append}
-use Rattle.std.proofs.lemmas.List.{take-append-le, drop-drop, length-drop, map-append, drop_all}
+use Rattle.std.proofs.lemmas.Grind.{common_steps}
+use Rattle.std.proofs.lemmas.List.{drop-drop, length-drop, drop_all}
 use Rattle.std.proofs.lemmas.List.Sums.{sum_by_more_le, sum_by-append}
 use Rattle.std.proofs.Math.Pow.{pow_mono}
 use Rattle.std.proofs.Math.Seq.{drop-cons}

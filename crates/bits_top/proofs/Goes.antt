@@ -1,10 +1,10 @@
 -- A process of today's form asks for what its items say.
-use Rattle.std.proofs.Common.{◌≡◌, ℕ, zero, suc, ◌+◌, ◌-◌, ◌*◌, ◌≤◌, ◌<◌, List, [], ◌∷◌, ◌++◌, length, refl, sym, ap, ◌∙◌, arith, Bool, true, false, cond, Option, Some, None, nat_lt, nat_eq, codes, slice_get}
+use Rattle.std.proofs.Common.{◌≡◌, ℕ, zero, suc, ◌+◌, ◌-◌, ◌*◌, ◌≤◌, List, [], ◌∷◌, ◌++◌, length, refl, sym, ap, ◌∙◌, arith, Bool, true, false, cond, Option, Some, None, nat_lt, nat_eq, codes, slice_get}
 use Rattle.std.proofs.lemmas.Bool.Decides.{nat_tests}
-use Rattle.bits_top.specs.Value.{Value, VAtom, VBits, VTuple, more, none, Stop, Raise, raise_of}
+use Rattle.bits_top.specs.Value.{Value, VAtom, VBits, VTuple, more, none, Raise}
 use Rattle.bits_top.specs.Tree.{Tree, Val, Var, Build, Call, First, Shut, Next, Then, Last, Pattern, Bound, Matched, Yes, No, built, matched, put_in, put_in_shut, value_in, value_or_variable}
 use Rattle.bits_top.specs.Tree as tree
-use Rattle.bits_top.specs.Local.{Code, Ask, Show, Step, Ready, Goes, Falls, Asks, step, Course, At, Fell, Local, spent, charged, Outcome, Wants, EndsDone, EndsRaised, Unfinished, walk, outcome_in, ask_of, size_of, size_of_course, of_match, taken}
+use Rattle.bits_top.specs.Local.{Code, Ask, Show, Goes, Falls, Asks, step, Course, At, Fell, Local, spent, Outcome, Wants, EndsDone, EndsRaised, Unfinished, walk, outcome_in, ask_of, size_of, of_match}
 use Rattle.bits_top.specs.Body.{segments, pattern, body}
 use Rattle.bits_top.specs.Asks.{standing, resting, displays, matches, goes}
 use Rattle.bits_top.specs.declared.form.Item.{Item}
@@ -137,10 +137,10 @@ walk_items code less (Match fields parts ∷ []) bindings left (suc (suc n)) h =
     ∙ walk_match_last code less n left (VBits (built (segments parts))) (pattern fields) (matched (pattern fields) (VBits (built (segments parts)))) refl
 walk_items code less (Match fields parts ∷ next ∷ items) bindings left (suc (suc n)) h =
     walk_free code less (suc n) left (First (Build (segments parts)) (Then (pattern fields) (put_in bindings (body (next ∷ items)))))
-        (First (Val (VBits (built (segments parts)))) (Then (pattern fields) (put_in bindings (body (next ∷ items))))) refl
+    (First (Val (VBits (built (segments parts)))) (Then (pattern fields) (put_in bindings (body (next ∷ items))))) refl
     ∙ walk_match_then code less n left bindings (VBits (built (segments parts))) (pattern fields) (body (next ∷ items)) (next ∷ items)
-        (matched (pattern fields) (VBits (built (segments parts)))) refl
-        (λ others. walk_items code less (next ∷ items) (bindings ++ others) left n (omega (arith, h)))
+    (matched (pattern fields) (VBits (built (segments parts)))) refl
+    (λ others. walk_items code less (next ∷ items) (bindings ++ others) left n (omega (arith, h)))
 walk_items code less (Display variable ∷ []) bindings left (suc (suc n)) h = walk_display_last code less (suc n) left bindings variable (value_in bindings variable)
 walk_items code less (Display variable ∷ next ∷ items) bindings left (suc (suc n)) h =
     walk_display_next code less (suc n) left bindings variable next items (value_in bindings variable)
@@ -159,7 +159,7 @@ asks_resting code bindings (item ∷ items) left answer =
     let t : Tree = put_in bindings (body (item ∷ items)) in
     let room : 2 * length (item ∷ items) ≤ 1 + size_of t + 2 = omega (arith, room_for (item ∷ items) bindings) in
     by_walk code left (First (Val answer) (Next t)) (goes bindings (item ∷ items) left)
-        (λ less. walk_free code less (1 + size_of t + 2) left (First (Val answer) (Next t)) t refl ∙ walk_items code less (item ∷ items) bindings left (1 + size_of t + 2) room)
+    (λ less. walk_free code less (1 + size_of t + 2) left (First (Val answer) (Next t)) t refl ∙ walk_items code less (item ∷ items) bindings left (1 + size_of t + 2) room)
 
 -- at its start, when the call is paid
 pub asks_first : (code : Code) (items : List Item) (left : ℕ) → slice_get code.functions 0 ≡ Some (body items) →
@@ -169,7 +169,7 @@ asks_first code items left e =
     let q : nat_lt left (suc left) ≡ true = grind (arith, nat_tests) in
     let d : suc left - 1 ≡ left = omega arith in
     let inside : ask_of code (standing left (body items)) ≡ goes [] items left =
-        by_walk code left (body items) (goes [] items left)
-            (λ less. ap (λ u. walk code less (suc (size_of (body items))) (standing left u)) (sym (put_none (body items)))
-                ∙ walk_items code less items [] left (suc (size_of (body items))) (omega (arith, room_for items [], ap size_of (put_none (body items))))) in
+    by_walk code left (body items) (goes [] items left)
+    (λ less. ap (λ u. walk code less (suc (size_of (body items))) (standing left u)) (sym (put_none (body items)))
+    ∙ walk_items code less items [] left (suc (size_of (body items))) (omega (arith, room_for items [], ap size_of (put_none (body items))))) in
     rw (e, p, d, q) inside

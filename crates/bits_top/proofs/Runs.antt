@@ -1,14 +1,13 @@
 -- The machine in a run of process 1, entry by entry.
-use Rattle.std.proofs.Common.{◌≡◌, ℕ, ℤ, suc, zero, ◌+◌, ◌≤◌, ◌<◌, List, [], ◌∷◌, ◌++◌, map, refl, sym, ap, ◌∙◌, subst, codes, Option, Some, None, slice_get, arith, append-nil, Bool, true, false, cond, nat_eq, length, drop, slice_index_or, Result, Ok, Err, IfOk}
+use Rattle.std.proofs.Common.{◌≡◌, ℕ, ℤ, suc, zero, ◌+◌, ◌<◌, List, [], ◌∷◌, ◌++◌, map, refl, sym, ap, ◌∙◌, subst, codes, Option, Some, None, arith, append-nil, Bool, true, false, cond, nat_eq, length, drop, slice_index_or, Result, Ok, Err, IfOk}
 use Rattle.std.proofs.lemmas.Bool.Decides.{nat_tests}
 use Rattle.bits_top.proofs.Binding.{drop_next}
 use Rattle.std.proofs.lemmas.Grind.{common_steps}
 use Rattle.bits_top.specs.Value.{Value, VAtom, VInt, VBits}
-use Rattle.bits_top.specs.Tree.{Bound, Yes, matched, built, Call, value_in}
-use Rattle.bits_top.specs.Local.{Code, Local, Show, Wants, EndsDone, EndsRaised, ask_of}
-use Rattle.bits_top.specs.Local as l
-use Rattle.bits_top.specs.Machine.{End, Normal, Exit, Process, Running, Over, Left, Machine, apply, after, Legal, IsLegal, first_of}
-use Rattle.bits_top.specs.Body.{segments, pattern, code_of, body}
+use Rattle.bits_top.specs.Tree.{Bound, built, Call, value_in}
+use Rattle.bits_top.specs.Local.{Local, Show, Wants, ask_of}
+use Rattle.bits_top.specs.Machine.{Running, Over, Left, Machine, apply, after, Legal, IsLegal, first_of}
+use Rattle.bits_top.specs.Body.{segments, code_of}
 use Rattle.bits_top.specs.Form.{AreItems}
 use Rattle.bits_top.specs.Asks.{standing, resting, displays, matches, goes}
 use Rattle.bits_top.specs.Runs.{Runs, Stands, Binds, Advances, Finishes, HasRun, start, with_one, bounds, known, asks_end, end_of}
@@ -65,9 +64,10 @@ pub finished : (s : Straight) (r : ℕ) (entries : List Entry) (shown : List ℤ
 finished s r entries shown end h =
     let over = over_state s r h.local shown end h.ask in
     let legal = enters (start s r) (with_one s r (Running h.local []) shown) entries (Ended 1) h.legal h.state over.0 in
-    let state = comes_to (start s r) (with_one s r (Running h.local []) shown) entries (Ended 1) h.state ∙ over.1 in
-    (enters (start s r) (with_one s r (Over (end_of end)) shown) (entries ++ Ended 1 ∷ []) (Gone 1 0 0 0) legal state tt,
-     comes_to (start s r) (with_one s r (Over (end_of end)) shown) (entries ++ Ended 1 ∷ []) (Gone 1 0 0 0) state)
+    let state = comes_to (start s r) (with_one s r (Running h.local []) shown) entries (Ended 1) h.state ∙ over.1 in (
+      enters (start s r) (with_one s r (Over (end_of end)) shown) (entries ++ Ended 1 ∷ []) (Gone 1 0 0 0) legal state tt,
+      comes_to (start s r) (with_one s r (Over (end_of end)) shown) (entries ++ Ended 1 ∷ []) (Gone 1 0 0 0) state,
+    )
 
 pub ok_finished : {E : Type 0} (s : Straight) (r : ℕ) (progress : Progress) (end : Ending) (result : Result Outcome E) → Runs s r progress.entries.items progress.shown.items (asks_end end) →
     IfOk result (λ outcome. Finishes progress end outcome) → IfOk result (λ outcome. HasRun s r outcome)
@@ -90,8 +90,8 @@ pub stands_match : (s : Straight) (r : ℕ) (old new : Progress) (fields : List 
     new.shown.items ≡ old.shown.items → new.left ≡ old.left → Binds fields parts old.bindings.items new.bindings.items → Stands s r old (Match fields parts ∷ items) → Stands s r new items
 stands_match s r old new fields parts items entries shown left b h =
     let step : goes (bounds old.bindings.items) (Match fields parts ∷ items) old.left ≡ goes (bounds new.bindings.items) items new.left =
-        ap (λ m. matches (VBits (built (segments parts))) (λ others. goes (bounds old.bindings.items ++ others) items old.left) m) b.gives
-        ∙ ap (λ bs. goes bs items old.left) (sym b.bound) ∙ ap (λ n. goes (bounds new.bindings.items) items n) (sym left) in
+    ap (λ m. matches (VBits (built (segments parts))) (λ others. goes (bounds old.bindings.items ++ others) items old.left) m) b.gives
+    ∙ ap (λ bs. goes bs items old.left) (sym b.bound) ∙ ap (λ n. goes (bounds new.bindings.items) items n) (sym left) in
     record {
       runs = record { local = h.runs.local; legal = rw entries h.runs.legal; state = rw (entries, shown) h.runs.state; ask = h.runs.ask ∙ step };
       fits = rw b.names h.fits.1;
@@ -104,13 +104,17 @@ stands_display s r old new variable n items value left same shown entries h =
     let bs : List Bound = bounds old.bindings.items in
     let next : Value → Local = λ answer. standing new.left (resting bs items answer) in
     let asks : ask_of (code_of s) h.runs.local ≡ Wants (Show (VInt n)) next =
-        h.runs.ask ∙ ap (λ o. displays o bs items old.left) value ∙ ap (λ k. displays (Some (VInt n)) bs items k) left in
+    h.runs.ask ∙ ap (λ o. displays o bs items old.left) value ∙ ap (λ k. displays (Some (VInt n)) bs items k) left in
     let m : Machine = with_one s r (Running h.runs.local []) old.shown.items in
     let legal = enters (start s r) m old.entries.items (Shown 1) h.runs.legal h.runs.state (shown_legal s r h.runs.local old.shown.items (VInt n) next asks) in
     let state = comes_to (start s r) m old.entries.items (Shown 1) h.runs.state ∙ shown_state s r h.runs.local old.shown.items n next asks in
     record {
-      runs = record { local = next (VAtom (codes "true")); legal = rw entries legal; state = rw (entries, shown) state;
-          ask = asks_resting (code_of s) bs items new.left (VAtom (codes "true")) ∙ ap (λ b. goes (bounds b) items new.left) (sym same) };
+      runs = record {
+        local = next (VAtom (codes "true"));
+        legal = rw entries legal;
+        state = rw (entries, shown) state;
+        ask = asks_resting (code_of s) bs items new.left (VAtom (codes "true")) ∙ ap (λ b. goes (bounds b) items new.left) (sym same);
+      };
       fits = (let e : known old.bindings.items ++ [] ≡ known new.bindings.items = append-nil (known old.bindings.items) ∙ ap known (sym same) in
           let P : List ℕ → Type 0 = λ k. AreItems k items in subst P e h.fits.1);
     }
@@ -119,8 +123,12 @@ pub runs_out : (s : Straight) (r : ℕ) (old : Progress) (variable : ℕ) (n : �
     Stands s r old (Display variable ∷ items) → Runs s r old.entries.items old.shown.items (asks_end ending.Exhausted)
 runs_out s r old variable n items value left h =
     let bs : List Bound = bounds old.bindings.items in
-    record { local = h.runs.local; legal = h.runs.legal; state = h.runs.state;
-        ask = h.runs.ask ∙ ap (λ o. displays o bs items old.left) value ∙ ap (λ k. displays (Some (VInt n)) bs items k) left }
+    record {
+      local = h.runs.local;
+      legal = h.runs.legal;
+      state = h.runs.state;
+      ask = h.runs.ask ∙ ap (λ o. displays o bs items old.left) value ∙ ap (λ k. displays (Some (VInt n)) bs items k) left;
+    }
 
 pub stands_first : (s : Straight) (r left : ℕ) (progress : Progress) → r ≡ suc left → progress.left ≡ left → progress.bindings.items ≡ [] → progress.entries.items ≡ [] →
     progress.shown.items ≡ [] → AreItems [] s.items → Stands s r progress s.items

@@ -1,5 +1,5 @@
 -- A text within its limit has no bit expression that passes the bound of a bitstring.
-use Rattle.std.proofs.Common.{◌≡◌, ℕ, ◌+◌, ◌*◌, ◌≤◌, ◌<◌, List, [], ◌∷◌, ◌++◌, length, map, codes, decimal, All, arith, length-append, ap}
+use Rattle.std.proofs.Common.{◌≡◌, ℕ, ◌+◌, ◌*◌, ◌≤◌, List, [], ◌∷◌, ◌++◌, length, map, codes, All, arith, length-append, ap}
 use Rattle.std.specs.List.{flat_map}
 use Rattle.std.proofs.lemmas.Grind.{common_steps}
 use Rattle.std.proofs.lemmas.List.Elements.{All-cons}
@@ -8,7 +8,6 @@ use Rattle.std.proofs.lemmas.List.Sums.{sum_by-le}
 use Rattle.bits_top.specs.Form.{separated, field_text, part_text, item_text, text_of, IsField, IsItem, AreItems, IsForm, bound_by}
 use Rattle.bits_top.specs.Runs.{IsShort, fields_bits, parts_bits}
 use Rattle.bits_top.specs.declared.form.Field.{Field}
-use Rattle.bits_top.specs.declared.form.Part.{Part}
 use Rattle.bits_top.specs.declared.form.Item.{Item}
 use Rattle.bits_top.specs.declared.form.Item.TheVariants.{Match, Display}
 use Rattle.bits_top.specs.declared.form.Straight.{Straight}
@@ -47,7 +46,7 @@ item_short known (Match fields parts) h n =
     let a : length fields ≤ length (separated (codes ",") (map field_text fields)) = fields_within fields in
     let b : fields_bits fields ≤ length fields * 64 = bits_within fields h.fields_fit in
     let c : length (separated (codes ",") (map field_text fields)) ≤ length (item_text (Match fields parts)) =
-        front_within (separated (codes ",") (map field_text fields)) (separated (codes ",") (map part_text parts)) in
+    front_within (separated (codes ",") (map field_text fields)) (separated (codes ",") (map part_text parts)) in
     few_bits (length fields) (length (separated (codes ",") (map field_text fields))) (length (item_text (Match fields parts))) (fields_bits fields) (parts_bits parts) a c n b h.even
 item_short known (Display variable) h n = tt
 
@@ -72,4 +71,4 @@ at_most items text all e h n = let f : length text ≡ length all = ap length e 
 pub all_short : (text : List ℕ) (straight : Straight) → IsForm text straight → length text ≤ 1_048_576 → All IsShort straight.items
 all_short text straight h n =
     body_short straight.items h.formed.items
-      (at_most (separated (codes ", ") (map item_text straight.items)) text (text_of straight) h.spelled (items_within straight.name (separated (codes ", ") (map item_text straight.items))) n)
+    (at_most (separated (codes ", ") (map item_text straight.items)) text (text_of straight) h.spelled (items_within straight.name (separated (codes ", ") (map item_text straight.items))) n)

@@ -1,5 +1,5 @@
 -- What each answer of a command says of the ports (this project's own).
-use Rattle.std.specs.Prelude.{◌≡◌, ◌⊎◌, ℕ, ◌≤◌, ◌<◌, List, length, codes, Option, Some, None, IfSome}
+use Rattle.std.specs.Prelude.{◌≡◌, ◌⊎◌, ℕ, ◌≤◌, ◌<◌, List, length, codes, Option, Some, IfSome}
 use Rattle.std.specs.Io.KnownBytes.{Appends, IsAtEnd}
 use Rattle.io_ports.specs.Causes.{Rose}
 use Rattle.bits_top.specs.Stream.{AppendsPrefix}

@@ -1,5 +1,5 @@
 -- The function that a module of today's form has (Erlang Reference Manual, "Function Declaration Syntax").
-use Rattle.std.specs.Prelude.{ℕ, List, [], ◌∷◌, map, codes, pos}
+use Rattle.std.specs.Prelude.{List, [], ◌∷◌, map, codes, pos}
 use Rattle.bits_top.specs.Value.{VAtom}
 use Rattle.bits_top.specs.Tree.{Segment, Target, Pattern, PBits, Tree, Val, Var, Build, First, Next, Then, Last}
 use Rattle.bits_top.specs.Tree as tree

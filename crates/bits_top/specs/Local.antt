@@ -1,8 +1,8 @@
 -- The next contraction of an expression, what it costs in reductions, and what a process asks for next (the values are
 -- the Erlang Reference Manual's, "Expressions" and "Processes"; the costs are this project's own).
-use Rattle.std.specs.Prelude.{ℕ, zero, suc, ◌+◌, ◌-◌, Bool, true, false, List, [], ◌∷◌, codes, Option, Some, None, nat_lt, slice_get}
+use Rattle.std.specs.Prelude.{ℕ, zero, suc, ◌+◌, ◌-◌, Bool, true, false, List, codes, Option, Some, None, nat_lt, slice_get}
 use Rattle.bits_top.specs.Value.{Value, VAtom, VBits, Stop, Raise, Limit, raise, raise_of}
-use Rattle.bits_top.specs.Tree.{Tree, Val, Var, Build, Call, Display, First, Shut, Next, Then, Last, Pattern, Bound, Matched, Yes, No, built, matched, put_in}
+use Rattle.bits_top.specs.Tree.{Tree, Val, Var, Build, Call, Display, First, Shut, Next, Then, Last, Bound, Matched, Yes, No, built, matched, put_in}
 
 -- a module: its name, and the body of each function
 pub record Code : Type 0 where

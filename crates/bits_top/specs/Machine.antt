@@ -1,9 +1,9 @@
 -- The copying machine: bitstrings are lists of bits, and what is sent is copied. Its orders, legal and complete (the
 -- acts are the Erlang Reference Manual's, "Processes"; that each is one entry of an order is this project's own).
 use Rattle.std.specs.Prelude.{ℕ, ◌≡◌, ◌+◌, ◌-◌, ◌≤◌, List, [], ◌∷◌, ◌++◌, codes, Option, Some, None, slice_get, slice_set, length}
-use Rattle.bits_top.specs.Value.{Value, VInt, VAtom, VPid, Stop, Limit}
+use Rattle.bits_top.specs.Value.{Value, VAtom, VPid, Limit}
 use Rattle.bits_top.specs.Tree.{Tree, Call}
-use Rattle.bits_top.specs.Local.{Code, Ask, SendTo, Show, Start, Local, Course, At, Fell, Outcome, Wants, WantsMore, EndsDone, EndsRaised, Unfinished, ask_of}
+use Rattle.bits_top.specs.Local.{Code, SendTo, Show, Start, Local, At, Fell, Outcome, Wants, WantsMore, EndsDone, EndsRaised, ask_of}
 use Rattle.bits_top.specs.declared.entry.Entry.{Entry}
 use Rattle.bits_top.specs.declared.entry.Entry.TheVariants.{Sent, Saw, Shown, Started, Full, Ended, Stopped, Gone}
 

@@ -1,6 +1,6 @@
 -- The machine in a run of process 1.
 use Rattle.std.specs.Prelude.{ℕ, ℤ, ◌≡◌, ◌≤◌, ◌++◌, List, [], ◌∷◌, codes, map, sum_by, Bool, true, false}
-use Rattle.bits_top.specs.Value.{Value, VInt, VAtom, VBits}
+use Rattle.bits_top.specs.Value.{VInt, VAtom, VBits}
 use Rattle.bits_top.specs.Tree.{Bound, Yes, built, matched}
 use Rattle.bits_top.specs.Local.{Local, EndsDone, EndsRaised, ask_of}
 use Rattle.bits_top.specs.Local as l

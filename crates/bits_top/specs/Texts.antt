@@ -1,7 +1,7 @@
 -- The texts of a report and of an order (this project's own).
 use Rattle.std.specs.Prelude.{ℕ, ◌+◌, List, [], ◌∷◌, ◌++◌, codes, decimal}
 use Rattle.std.specs.List.{flat_map}
-use Rattle.bits_top.specs.Value.{Value, value_text, pid_text}
+use Rattle.bits_top.specs.Value.{value_text, pid_text}
 use Rattle.bits_top.specs.Machine.{End, Normal, Exit, Waiting, Process, Running, Over, Left, Machine, after}
 use Rattle.bits_top.specs.declared.entry.Entry.{Entry}
 use Rattle.bits_top.specs.declared.entry.Entry.TheVariants.{Sent, Saw, Shown, Started, Full, Ended, Stopped, Gone}

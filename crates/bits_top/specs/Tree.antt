@@ -1,6 +1,6 @@
 -- Expressions with values in them, and matching (Erlang Reference Manual, "Expressions", "Bit Syntax Expressions",
 -- "Patterns").
-use Rattle.std.specs.Prelude.{ℕ, ℤ, ◌+◌, ◌∷◌, [], ◌++◌, List, Bool, length, take, drop, Option, Some, None, nat_eq, nat_le, cond}
+use Rattle.std.specs.Prelude.{ℕ, ℤ, ◌∷◌, [], ◌++◌, List, Bool, length, take, drop, Option, Some, None, nat_eq, nat_le, cond}
 use Rattle.std.specs.List.{flat_map}
 use Rattle.bits_value.specs.Number.{number, spell}
 use Rattle.bits_value.specs.declared.Sign.TheVariants.{Unsigned}

@@ -1,5 +1,5 @@
 -- Values and their texts (Erlang Reference Manual, "Data Types"; the texts are this project's own).
-use Rattle.std.specs.Prelude.{ℕ, ℤ, zero, suc, ◌/◌, ◌+◌, List, [], ◌∷◌, ◌++◌, Bool, length, take, drop, codes, decimal}
+use Rattle.std.specs.Prelude.{ℕ, ℤ, zero, suc, ◌/◌, List, [], ◌∷◌, ◌++◌, Bool, length, take, drop, codes, decimal}
 use Rattle.std.specs.Fmt.{signed_decimal}
 use Rattle.bits_value.specs.Number.{natural}
 use Rattle.bits_top.specs.Form.{separated}

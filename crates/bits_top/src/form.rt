@@ -24,7 +24,9 @@ pub(crate) enum Item {
         parts: Listed<Part>,
     },
     // A call of `erlang:display/1` with a variable.
-    Display { variable: u8 },
+    Display {
+        variable: u8,
+    },
 }
 
 // A module of this form.

@@ -60,12 +60,7 @@ fn advance(alloc: Global, progress: &mut Progress, item: &Item) -> Result<bool, 
 {
     match item {
         Item::Match { fields, parts } => {
-            bind(
-                alloc,
-                fields.items(),
-                parts.items(),
-                &mut progress.bindings,
-            )?;
+            bind(alloc, fields.items(), parts.items(), &mut progress.bindings)?;
             Ok(true)
         }
         Item::Display { variable } => {
@@ -85,14 +80,16 @@ fn advance(alloc: Global, progress: &mut Progress, item: &Item) -> Result<bool, 
 fn finish(progress: Progress, ending: Ending) -> Result<Outcome, AllocError>
     ensures { IfOk result (λ outcome. Finishes progress ending outcome) }
 {
-    let mut entries = progress.entries;
-    entries.push(Entry::Ended { pid: 1 })?;
-    entries.push(Entry::Gone {
+    let ended = Entry::Ended { pid: 1 };
+    let gone = Entry::Gone {
         pid: 1,
         births: 0,
         drops: 0,
         moved: 0,
-    })?;
+    };
+    let mut entries = progress.entries;
+    entries.push(ended)?;
+    entries.push(gone)?;
     Ok(Outcome {
         entries: Listed::of(entries),
         shown: Listed::of(progress.shown),

@@ -1,6 +1,8 @@
 //! The syntax of modules: places in a text, texts, lists and trees, which all layers above share.
 #![tactic(auto)]
 
+mod built_in;
+mod checking;
 mod clause;
 mod expr;
 mod listed;
@@ -11,7 +13,10 @@ mod segment;
 mod span;
 mod text;
 mod token;
+mod typing;
 
+pub use built_in::{BUILT_INS, BuiltIn};
+pub use checking::{CheckCause, CheckFault, VarUse};
 pub use clause::{Alt, Branch, Guard, Item};
 pub use expr::{Expr, Op, Prefix};
 pub use listed::Listed;
@@ -22,6 +27,7 @@ pub use segment::{Segment, Spec};
 pub use span::Span;
 pub use text::Text;
 pub use token::{LexCause, LexFault, MARKS, Piece, RESERVED, Token, TokenKind, longest_mark_first};
+pub use typing::{Kind, SegFault, SideUse, SizeUse, SpecKind, Typed};
 
 #[cfg(test)]
 mod tests;

@@ -1,4 +1,7 @@
-use crate::{LexCause, Listed, MARKS, RESERVED, Text, longest_mark_first};
+use crate::{
+    BUILT_INS, BuiltIn, CheckCause, LexCause, Listed, MARKS, RESERVED, SegFault, Text,
+    longest_mark_first,
+};
 use std::test::Fail;
 
 #[test]
@@ -21,5 +24,52 @@ fn words_and_marks_have_their_spelling(rt: HostRuntime) -> Result<(), Fail> {
     assert_eq!(rt; marks, b"...".as_slice());
     let cause = format!(in alloc; "{}", LexCause::NotUtf8)?;
     assert_eq!(rt; cause.as_str(), "not UTF-8");
+    Ok(())
+}
+
+#[test]
+fn built_in_functions_have_names(rt: HostRuntime) -> Result<(), Fail> {
+    let alloc = rt.alloc();
+    let mut text = String::new(alloc);
+    for built_in in BUILT_INS {
+        for byte in built_in.name() {
+            text.push(char::from(*byte))?;
+        }
+        write!(text, "/{} ", built_in.arity())?;
+    }
+    assert_eq!(rt;
+        text.as_str(),
+        "is_integer/1 is_number/1 is_atom/1 is_boolean/1 is_pid/1 is_tuple/1 is_list/1 is_binary/1 is_bitstring/1 bit_size/1 byte_size/1 tuple_size/1 element/2 length/1 hd/1 tl/1 abs/1 max/2 min/2 self/0 binary_part/3 binary_part/2 display/1 spawn/3 exit/1 error/1 split_binary/2 binary_to_list/1 list_to_binary/1 integer_to_binary/1 binary_to_integer/1 tuple_to_list/1 list_to_tuple/1 reverse/1 "
+    );
+    let home = BuiltIn::Reverse.home();
+    assert_eq!(rt; home, b"lists".as_slice());
+    assert_eq!(rt; BuiltIn::Display.is_bare(), false);
+    assert_eq!(rt; BuiltIn::SelfPid.is_for_guards(), true);
+    Ok(())
+}
+
+#[test]
+fn causes_of_checking_are_printed(rt: HostRuntime) -> Result<(), Fail> {
+    let alloc = rt.alloc();
+    let rows = [
+        (
+            CheckCause::Segment(SegFault::OpenNotLast),
+            "open segment not last",
+        ),
+        (CheckCause::ModuleAgain, "module again"),
+        (CheckCause::HeadsDiffer, "heads differ"),
+        (CheckCause::FunctionAgain, "function again"),
+        (CheckCause::ExportMissing, "exported function missing"),
+        (CheckCause::UndefinedFunction, "undefined function"),
+        (CheckCause::CallInGuard, "call in guard"),
+        (CheckCause::UnboundVariable, "unbound variable"),
+        (CheckCause::UnsafeVariable, "unsafe variable"),
+        (CheckCause::NoModule, "no module attribute"),
+        (CheckCause::NoMain, "no main/0"),
+    ];
+    for (cause, printed) in rows {
+        let text = format!(in alloc; "{cause}")?;
+        assert_eq!(rt; text.as_str(), printed);
+    }
     Ok(())
 }

@@ -1,6 +1,5 @@
-use Rattle.std.proofs.Common.{◌≡◌, ◌∙◌, ap, length, arith, rules}
+use Rattle.std.proofs.Common.{◌≡◌, ◌∙◌, arith}
 use Rattle.bits_value.proofs.Written.{bit_list-cut}
-use Rattle.bits_value.specs.Bits.{bit_list}
 use Rattle.bits_top.specs.Body.{segments}
 use Rattle.bits_top.specs.Tree.{built}
 use Rattle.bits_top.specs.Runs.{parts_bits}

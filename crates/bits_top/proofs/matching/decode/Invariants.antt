@@ -1,8 +1,6 @@
-use Rattle.std.proofs.Common.{◌≡◌, ◌++◌, take, drop, map, List, [], length, Bool}
-use Rattle.bits_top.specs.Runs.{fields_bits, bounds, known}
-use Rattle.bits_top.specs.Tree.{Bound, matched_bits, Target}
-use Rattle.bits_top.specs.declared.form.Field.{Field}
-use Rattle.bits_top.proofs.Binding.{targets, DecodesTo}
+use Rattle.std.proofs.Common.{◌≡◌, take, drop}
+use Rattle.bits_top.specs.Runs.{fields_bits}
+use Rattle.bits_top.proofs.Binding.{DecodesTo}
 use Rattle.bits_top.proofs.matching.decode.Given as goal
 
 abbrev pub invariant-loop-field : goal.invariant-loop-field

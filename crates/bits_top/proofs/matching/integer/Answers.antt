@@ -1,4 +1,4 @@
-use Rattle.std.proofs.Common.{◌≡◌, ◌≤◌, sym, ◌∙◌, take, drop, length, arith}
+use Rattle.std.proofs.Common.{◌≤◌, sym, ◌∙◌, take, drop, length, arith}
 use Rattle.std.proofs.lemmas.Grind.{common_steps}
 use Rattle.bits_top.proofs.Binding.{narrow_some}
 use Rattle.bits_top.proofs.matching.integer.Goals as goal

@@ -1,4 +1,4 @@
-use Rattle.std.proofs.Common.{◌≡◌, ◌≤◌, ◌+◌, ◌++◌, length, take, drop, pos, arith, rules, ap, ◌∙◌}
+use Rattle.std.proofs.Common.{◌≡◌, ◌+◌, ◌++◌, length, take, drop, pos, arith, rules, ap, ◌∙◌}
 use Rattle.std.proofs.lemmas.Int.{to_z-of_z}
 use mir.Val.{SFits, to_z, of_z}
 use mir.Syntax.{w128}
@@ -20,6 +20,6 @@ returns-clause-bits c =
     let fits : SFits w128 c.into.result = search rules in
     let same : to_z w128 (of_z w128 c.into.result) ≡ pos c.args.part.now.value = to_z-of_z w128 c.into.result fits ∙ c.into.ensures in
     let put : all_bits c.put.new.target ≡ take c.args.at old ++ (piece ++ drop (c.args.at + size) old) =
-        (rw (c.size.ensures, c.deref_mut.ensures.value) at c.put.ensures) ∙ ap (λ v. take c.args.at old ++ (spell size v Big ++ drop (c.args.at + size) old)) same in
+    (rw (c.size.ensures, c.deref_mut.ensures.value) at c.put.ensures) ∙ ap (λ v. take c.args.at old ++ (spell size v Big ++ drop (c.args.at + size) old)) same in
     rw (written_back c.args.bytes.now.items c.put.new.target c.args.bytes.now.len count)
-      (written_front old (all_bits c.put.new.target) piece c.args.at size put (length-big_bits size _) (omega (arith, length-all_bits c.args.bytes.now.items, c.requires)))
+    (written_front old (all_bits c.put.new.target) piece c.args.at size put (length-big_bits size _) (omega (arith, length-all_bits c.args.bytes.now.items, c.requires)))

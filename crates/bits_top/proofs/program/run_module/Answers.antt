@@ -18,5 +18,5 @@ pub returns-in-Ok-Some : goal.returns-in-Ok-Some
 returns-in-Ok-Some g c =
     let short : length c.in-Ok.text.items ≤ 1_048_576 = omega arith in
     accepted_answers c.answer.result c.args.reductions c.in-Ok.text.items c.in-Ok-Some.straight _ _ _
-      (record { held = held_whole _ _ _ c.in-Ok.ensures.read.taken (c.in-Ok.ensures.read.whole short); ended = c.in-Ok.ensures.read.whole short; short = short; form = search rules })
-      c.answer.ensures
+    (record { held = held_whole _ _ _ c.in-Ok.ensures.read.taken (c.in-Ok.ensures.read.whole short); ended = c.in-Ok.ensures.read.whole short; short = short; form = search rules })
+    c.answer.ensures

@@ -8,5 +8,5 @@ use Rattle.bits_top.proofs.run.value_of.Goals as goal
 pub unreachable-requires : goal.unreachable-requires
 unreachable-requires c =
     let none : value_in (bounds (drop c.loop-binding.binding-index c.args.bindings.now)) c.args.variable ≡ None =
-        rw (drop_all c.loop-binding.binding-index c.args.bindings.now c.loop-binding-test.false) refl in
+    rw (drop_all c.loop-binding.binding-index c.args.bindings.now c.loop-binding-test.false) refl in
     bound_some c.args.bindings.now c.args.variable c.requires.0 c.requires.1 c.requires.2 (c.loop-binding.invariant ∙ none)

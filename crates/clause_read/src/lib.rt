@@ -1,0 +1,10 @@
+//! Modules read from their tokens: the tree that they spell, or the first token with which no module can go on.
+#![tactic(auto)]
+
+pub mod fault;
+mod operators;
+pub mod placed;
+pub mod sizes;
+pub mod source;
+#[cfg(test)]
+mod tests;

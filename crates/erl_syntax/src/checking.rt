@@ -1,0 +1,72 @@
+use crate::{SegFault, Span};
+use std::alloc::AllocFailed;
+use thiserror::Error;
+
+/// Why a module that was read isn't accepted, in the order in which the faults at one place are told.
+#[derive(Clone, Copy, Debug, PartialEq, Eq, Error)]
+pub enum CheckCause {
+    /// A segment without a type.
+    #[error("{0}")]
+    Segment(SegFault),
+    /// A second `-module` form.
+    #[error("module again")]
+    ModuleAgain,
+    /// A clause with another name or number of arguments than the first of its function.
+    #[error("heads differ")]
+    HeadsDiffer,
+    /// A function that stands before, or whose calls would also be of a built-in function.
+    #[error("function again")]
+    FunctionAgain,
+    /// An exported name of no function.
+    #[error("exported function missing")]
+    ExportMissing,
+    /// A call of no function.
+    #[error("undefined function")]
+    UndefinedFunction,
+    /// A call in a guard or in a pattern's size that isn't of a built-in function for guards.
+    #[error("call in guard")]
+    CallInGuard,
+    /// A variable that has no value where it stands.
+    #[error("unbound variable")]
+    UnboundVariable,
+    /// A variable of a `case`, an `if` or a `receive`, behind it.
+    #[error("unsafe variable")]
+    UnsafeVariable,
+    /// A module without a `-module` form.
+    #[error("no module attribute")]
+    NoModule,
+    /// A module that doesn't export `main/0`.
+    #[error("no main/0")]
+    NoMain,
+    /// No fault of the module: memory ran out.
+    #[error("out of memory")]
+    NoMemory,
+}
+
+/// The first fault of a module, or that memory ran out (at 1:1).
+#[derive(Clone, Copy, Debug, PartialEq, Eq)]
+pub struct CheckFault {
+    pub span: Span,
+    pub why: CheckCause,
+}
+
+/// A variable where it stands in a module: its number in its function, and whether it gets its value here.
+#[derive(Clone, Copy, Debug, PartialEq, Eq)]
+pub struct VarUse {
+    pub number: u32,
+    pub binds: bool,
+}
+
+impl<T: Drop> From<AllocFailed<T>> for CheckFault {
+    ghost use Rattle.erl_syntax.specs.declared.checking.CheckCause.TheVariants.{NoMemory};
+    ghost use Rattle.std.specs.Prelude.{◌≡◌};
+
+    ghost from_gives = { λ _ e. e.why ≡ NoMemory };
+
+    fn from(_: AllocFailed<T>) -> CheckFault {
+        CheckFault {
+            span: Span { line: 1, column: 1 },
+            why: CheckCause::NoMemory,
+        }
+    }
+}

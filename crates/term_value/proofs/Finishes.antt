@@ -1,0 +1,108 @@
+-- A local state comes to an ask: it never stays unfinished.
+use Rattle.std.proofs.Common.{◌≡◌, ◌⊎◌, inl, inr, ℕ, zero, suc, Bool, true, false, ◌<◌, ◌≤◌, List, [], ◌∷◌, refl, arith}
+use Rattle.std.specs.Prelude.{nat_lt}
+use Rattle.term_value.specs.Value.{Value, more, none}
+use Rattle.term_value.specs.Result.{Stop, Raise, Limit}
+use Rattle.term_value.specs.Tree.{Tree, Clauses, Module}
+use Rattle.term_value.specs.Match.{Picked, Body, NoClause, PickLimit, picked}
+use Rattle.term_value.specs.Step.{World, setting, Step, Ready, Goes, Falls, Asks, Looks, step}
+use Rattle.term_value.specs.Local.{Local, Course, At, Fell, world, Seen, Takes, NoMessage, SeenLimit, kept_before, takes, looked, charged, Next, On, Asking, ForMore, Done, Raised, is_normal, raised_where, ended, if_left, of_seen, of_step, of_course, next_of, size_of, size_of_clauses, size_of_course, Outcome, Unfinished, on_if, onward, walk, outcome_in}
+use Rattle.term_value.specs.Laws.{Finished, EachAsks}
+use Rattle.term_value.proofs.Smaller.{AtMost, picked_small}
+use Rattle.term_value.proofs.Shrinks.{Shrinks, step_shrinks}
+
+-- it has fewer reductions left, or as many and a smaller expression
+abbrev pub Advances : ℕ → ℕ → Next → Type 0
+Advances left size (On k) = (k.left < left) ⊎ ((k.left ≡ left) × (size_of_course k.course < size))
+Advances left size (Asking ask next) = Unit {0}
+Advances left size (ForMore k) = Unit {0}
+Advances left size Done = Unit {0}
+Advances left size (Raised reason) = Unit {0}
+
+-- a body that a seen message takes is one of the clauses'
+abbrev pub SeenAtMost : ℕ → Seen → Type 0
+SeenAtMost n (Takes body others) = size_of body ≤ n
+SeenAtMost n NoMessage = Unit {0}
+SeenAtMost n SeenLimit = Unit {0}
+
+kept_small : (n : ℕ) (v : Value) (later : Seen) → SeenAtMost n later → SeenAtMost n (kept_before v later)
+kept_small n v (Takes body others) h = h
+kept_small n v NoMessage h = tt
+kept_small n v SeenLimit h = tt
+
+takes_small : (n : ℕ) (p : Picked) (v : Value) (vs : List Value) (later : Seen) → AtMost n p → SeenAtMost n later → SeenAtMost n (takes p v vs later)
+takes_small n (Body t) v vs later h g = h
+takes_small n NoClause v vs later h g = kept_small n v later g
+takes_small n PickLimit v vs later h g = tt
+
+looked_small : (w : World) (cs : Clauses) (vs : List Value) → SeenAtMost (size_of_clauses cs) (looked w cs vs)
+looked_small w cs [] = tt
+looked_small w cs (v ∷ vs) = takes_small (size_of_clauses cs) (picked (setting w) cs (more v none)) v vs (looked w cs vs) (picked_small (setting w) cs (more v none)) (looked_small w cs vs)
+
+left_advances : (n size : ℕ) (l : Local) (next : Next) → l.left ≡ n → 0 < size → Advances l.left size next → Advances l.left size (if_left n l next)
+left_advances zero size l next e h g = inr (refl, h)
+left_advances (suc n) size l next e h g = g
+
+seen_advances : (n size : ℕ) (l : Local) (next : Tree → Tree) (s : Seen) → 0 < size → ((t : Tree) → size_of t ≤ n → suc (size_of (next t)) < size) → SeenAtMost n s → Advances l.left size (of_seen l next s)
+seen_advances n size l next (Takes body others) h g le = inr (refl, g body le)
+seen_advances n size l next NoMessage h g le = left_advances l.left size l _ refl h tt
+seen_advances n size l next SeenLimit h g le = inr (refl, h)
+
+-- a contraction that costs nothing, and one that costs something
+free_advances : (b : Bool) (size : ℕ) (l : Local) (course : Course) → 0 < size → size_of_course course < size → Advances l.left size (On (charged b l 0 course))
+free_advances true size l course h g = inr (refl, h)
+free_advances false size l course h g = inr (omega arith, g)
+
+paid_advances : (b : Bool) (cost size : ℕ) (l : Local) (course : Course) → 0 < size → nat_lt l.left (suc cost) ≡ b → Advances l.left size (On (charged b l (suc cost) course))
+paid_advances true cost size l course h e = inr (refl, h)
+paid_advances false cost size l course h e = inl (grind (arith, e))
+
+step_advances : (code : Module) (l : Local) (n : ℕ) (r : Step Value Tree) → Shrinks size_of n r → Advances l.left (suc n) (of_step code l r)
+step_advances code l n (Ready v) h = tt
+step_advances code l n (Goes zero t) h = free_advances (nat_lt l.left 0) (suc n) l (At t) (omega arith) (omega (arith, h))
+step_advances code l n (Goes (suc cost) t) h = paid_advances (nat_lt l.left (suc cost)) cost (suc n) l (At t) (omega arith) refl
+step_advances code l n (Falls zero stop) h = free_advances (nat_lt l.left 0) (suc n) l (Fell stop) (omega arith) (omega arith)
+step_advances code l n (Falls (suc cost) stop) h = paid_advances (nat_lt l.left (suc cost)) cost (suc n) l (Fell stop) (omega arith) refl
+step_advances code l n (Asks ask next) h = left_advances l.left (suc n) l _ refl (omega arith) tt
+step_advances code l n (Looks cs next) h = seen_advances (size_of_clauses cs) (suc n) l next (looked (world code l) cs l.seen) (omega arith) (λ t le. omega (arith, h t le)) (looked_small (world code l) cs l.seen)
+
+raised_advances : (b : Bool) (left size : ℕ) (reason : Value) → Advances left size (raised_where b reason)
+raised_advances true left size reason = tt
+raised_advances false left size reason = tt
+
+ended_advances : (left size : ℕ) (stop : Stop) → Advances left size (ended stop)
+ended_advances left size Limit = tt
+ended_advances left size (Raise reason) = raised_advances (is_normal reason) left size reason
+
+course_advances : (code : Module) (l : Local) (c : Course) → Advances l.left (size_of_course c) (of_course code l c)
+course_advances code l (At t) = step_advances code l (size_of t) (step (world code l) t) (step_shrinks (world code l) t)
+course_advances code l (Fell stop) = ended_advances l.left 0 stop
+
+-- the states that go on are finished where those with fewer reductions and those with a smaller expression are
+on_finishes : (b : Bool) (same less : Local → Outcome) (k : Local) → (b ≡ true → Finished (less k)) → (b ≡ false → Finished (same k)) → Finished (on_if b same less k)
+on_finishes true same less k h g = h refl
+on_finishes false same less k h g = g refl
+
+onward_finishes : (same less : Local → Outcome) (left size : ℕ) (next : Next) → Advances left size next
+    → ((k : Local) → k.left < left → Finished (less k)) → ((k : Local) → k.left ≡ left → size_of_course k.course < size → Finished (same k)) → Finished (onward same less left next)
+onward_finishes same less left size (On k) a h g = on_finishes (nat_lt k.left left) same less k
+    (λ e. h k (grind (arith, e)))
+    (λ e. elim a [ inl lt ↦ absurd (grind (arith, e, lt)) | inr s ↦ g k s.0 s.1 ])
+onward_finishes same less left size (Asking ask next) a h g = tt
+onward_finishes same less left size (ForMore k) a h g = tt
+onward_finishes same less left size Done a h g = tt
+onward_finishes same less left size (Raised reason) a h g = tt
+
+walk_finishes : (code : Module) (less : Local → Outcome) (left n : ℕ) → ((k : Local) → k.left < left → Finished (less k))
+    → (l : Local) → l.left ≡ left → size_of_course l.course ≤ n → Finished (walk code less n l)
+walk_finishes code less left zero h l e le = onward_finishes (λ k. Unfinished) less l.left (size_of_course l.course) (next_of code l) (course_advances code l l.course)
+    (λ k lt. h k (omega (arith, lt, e))) (λ k same lt. absurd (omega (arith, le, lt)))
+walk_finishes code less left (suc n) h l e le = onward_finishes (walk code less n) less l.left (size_of_course l.course) (next_of code l) (course_advances code l l.course)
+    (λ k lt. h k (omega (arith, lt, e))) (λ k same lt. walk_finishes code less left n h k (omega (arith, same, e)) (omega (arith, le, lt)))
+
+in_finishes : (code : Module) (n : ℕ) (l : Local) → l.left ≤ n → Finished (outcome_in code n l)
+in_finishes code zero l le = walk_finishes code (λ k. Unfinished) l.left (size_of_course l.course) (λ k lt. absurd (omega (arith, le, lt))) l refl (omega arith)
+in_finishes code (suc n) l le = walk_finishes code (outcome_in code n) l.left (size_of_course l.course) (λ k lt. in_finishes code n k (omega (arith, le, lt))) l refl (omega arith)
+
+pub each_asks : EachAsks
+each_asks code l = in_finishes code l.left l (omega arith)

@@ -1,0 +1,240 @@
+-- Small programs, and what a process asks for or a machine does.
+use Rattle.std.specs.Prelude.{◌≡◌, ℕ, true, false, List, [], ◌∷◌, ◌++◌, Option, Some, None}
+use Rattle.erl_syntax.specs.declared.expr.Op.TheVariants as o
+use Rattle.term_value.specs.Value.{Value, VAtom, VTuple, VList, VBits, none, more, row}
+use Rattle.term_value.specs.Atoms.{a_badarg, a_badmatch, a_bad_generator, a_bad_filter, a_if_clause, a_case_clause, a_system_limit, a_reductions, a_undef, a_true, a_false, a_ok}
+use Rattle.term_value.specs.BuiltIn.{Self}
+use Rattle.term_value.specs.Step.{Show}
+use Rattle.term_value.specs.Tree.{Build, Operate, Native, MakeTuple, MakeList, MakeListOn, Table, Call, Send, Display, Spawn, Variable, Equal, Tree, Val, Var, All, First, Choose, Receive, Gather, Items, Bits, Trees, end, and, Then, Last, Alts, AndAlso, OrElse, Clauses, no_clause, clause, Guard, never, or, give, from, test, InList, InBits, bottom, Pattern, PWild, PVar, PVal, PTuple, Patterns, no_pattern, pattern_and, Segments, no_segment, segment, Function, Module}
+use Rattle.term_value.specs.Local.{Local, At, Outcome, Wants, EndsDone, EndsRaised, ask_of}
+use Rattle.term_value.specs.Machine.{Normal, Exit as Exited, Waiting, Process, Left, Machine, start_of, IsLegal, IsComplete, after}
+use Rattle.term_value.specs.Worked.{int, number, atom, binary, byte, no_size, table, a_m, a_main, a_a, a_b, a_c, a_s}
+use Rattle.term_value.specs.declared.entry.Entry.{Entry}
+use Rattle.term_value.specs.declared.entry.Entry.TheVariants as e
+
+abbrev pub two : Tree → Tree → Trees
+two t u = and t (and u end)
+
+abbrev pub one : Tree → Trees
+one t = and t end
+
+abbrev pub one_pattern : Pattern → Patterns
+one_pattern p = pattern_and p no_pattern
+
+abbrev pub no_guard : Guard
+no_guard = or end never
+
+-- one item and then the rest of a body
+abbrev pub item : Tree → Tree → Tree
+item t rest = First t (Then no_pattern rest)
+
+abbrev pub display : Tree → Tree
+display t = All Display (one t)
+
+abbrev pub own : Tree
+own = All (Table (Native Self)) end
+
+abbrev pub operation : Rattle.erl_syntax.specs.declared.expr.Op.Op → Tree → Tree → Tree
+operation op t u = All (Table (Operate op)) (two t u)
+
+abbrev pub function : ℕ → ℕ → Clauses → Function
+function name arity clauses = record { name = name; arity = arity; exported = true; clauses = clauses }
+
+abbrev pub body : Patterns → Tree → Clauses
+body patterns t = clause patterns no_guard t no_clause
+
+-- the module `m` with this body of `main/0`, and more functions
+abbrev pub program : Tree → List Function → Module
+program t functions = record { atoms = table; name = a_m; functions = function a_main 0 (body no_pattern t) ∷ functions }
+
+abbrev pub standing : Tree → ℕ → Local
+standing t left = record { pid = 1; course = At t; seen = []; left = left }
+
+-- what process 1 asks for, with so many reductions
+abbrev pub asks : Tree → ℕ → Outcome
+asks t left = ask_of (program t []) (standing t left)
+
+abbrev pub shows : Outcome → Option Value
+shows (Wants (Show v) next) = Some v
+shows _ = None
+
+-- the reason `{Atom, Value}`
+abbrev pub reason : ℕ → Value → Value
+reason a v = VTuple (more (VAtom a) (more v none))
+
+-- `[X || <<1, X>> <= <<1, 2, 3, 4, 1, 6>>]`: the row `3, 4` is skipped
+abbrev pub ones : Segments
+ones = segment byte (Equal (int 1)) no_size (segment byte (Variable 0) no_size no_segment)
+
+abbrev pub skipping : Tree
+skipping = Gather (Items none) (from (Val (VBits (binary (1 ∷ 2 ∷ 3 ∷ 4 ∷ 1 ∷ 6 ∷ [])))) (InBits ones) (give (Var 0))) bottom
+
+abbrev pub GeneratorSkips : Type 0
+GeneratorSkips = shows (asks (display skipping) 4) ≡ Some (VList (row (int 2 ∷ int 6 ∷ [])))
+
+-- its three rows cost three reductions
+abbrev pub RowsCost : Type 0
+RowsCost = asks skipping 2 ≡ EndsRaised (VAtom a_reductions)
+
+abbrev pub LastRowIsFree : Type 0
+LastRowIsFree = asks skipping 3 ≡ EndsDone
+
+-- `<< <<(X bxor 1)>> || <<X>> <= <<1, 2, 3:4>> >>`: the last four bits are dropped
+abbrev pub dropping : Tree
+dropping = Gather (Bits []) (from (Val (VBits (binary (1 ∷ 2 ∷ []) ++ false ∷ false ∷ true ∷ true ∷ []))) (InBits (segment byte (Variable 0) no_size no_segment))
+    (give (All (Table (Build (byte ∷ []))) (one (operation o.Bxor (Var 0) (number 1)))))) bottom
+
+abbrev pub GeneratorDrops : Type 0
+GeneratorDrops = shows (asks (display dropping) 10) ≡ Some (VBits (binary (0 ∷ 3 ∷ [])))
+
+-- `[{X, Y} || X <- [1, 2], {Y, true} <- [{3, true}, 4]]`
+abbrev pub pairs : Tree
+pairs = Gather (Items none) (from (Val (VList (row (int 1 ∷ int 2 ∷ [])))) (InList (PVar 0))
+    (from (Val (VList (row (VTuple (row (int 3 ∷ VAtom a_true ∷ [])) ∷ int 4 ∷ [])))) (InList (PTuple (pattern_and (PVar 1) (one_pattern (PVal (VAtom a_true))))))
+    (give (All (Table MakeTuple) (two (Var 0) (Var 1)))))) bottom
+
+abbrev pub GeneratorsNest : Type 0
+GeneratorsNest = shows (asks (display pairs) 10) ≡ Some (VList (row (VTuple (row (int 1 ∷ int 3 ∷ [])) ∷ VTuple (row (int 2 ∷ int 3 ∷ [])) ∷ [])))
+
+-- `[X || X <- a]`
+abbrev pub BadGenerator : Type 0
+BadGenerator = asks (Gather (Items none) (from (atom a_a) (InList (PVar 0)) (give (Var 0))) bottom) 10 ≡ EndsRaised (reason a_bad_generator (VAtom a_a))
+
+-- `[X || X <- [1], a]`
+abbrev pub BadFilter : Type 0
+BadFilter = asks (Gather (Items none) (from (Val (VList (row (int 1 ∷ [])))) (InList (PVar 0)) (test (atom a_a) (give (Var 0)))) bottom) 10 ≡ EndsRaised (reason a_bad_filter (VAtom a_a))
+
+-- `<< X || X <- [1, 2] >>`: the first row's value is no bitstring
+abbrev pub RowNoBitstring : Type 0
+RowNoBitstring = asks (Gather (Bits []) (from (Val (VList (row (int 1 ∷ int 2 ∷ [])))) (InList (PVar 0)) (give (Var 0))) bottom) 10 ≡ EndsRaised (VAtom a_badarg)
+
+-- `1 andalso true`, and a right side of any kind
+abbrev pub AndAlsoRaises : Type 0
+AndAlsoRaises = asks (First (number 1) (AndAlso (atom a_true))) 1 ≡ EndsRaised (reason a_badarg (int 1))
+
+abbrev pub OrElseGives : Type 0
+OrElseGives = shows (asks (display (First (atom a_false) (OrElse (number 7)))) 1) ≡ Some (int 7)
+
+-- `{X, X} = {1, 2}`
+abbrev pub BadMatch : Type 0
+BadMatch = asks (First (Val (VTuple (row (int 1 ∷ int 2 ∷ [])))) (Last (one_pattern (PTuple (pattern_and (PVar 0) (one_pattern (PVar 0))))))) 1
+    ≡ EndsRaised (reason a_badmatch (VTuple (row (int 1 ∷ int 2 ∷ []))))
+
+-- `case 1 of 2 -> ok end` and `if 1 > 2 -> ok end`
+abbrev pub NoCase : Type 0
+NoCase = asks (First (number 1) (Alts (body (one_pattern (PVal (int 2))) (atom a_ok)))) 1 ≡ EndsRaised (reason a_case_clause (int 1))
+
+abbrev pub NoIf : Type 0
+NoIf = asks (Choose (clause no_pattern (or (one (operation o.Gt (number 1) (number 2))) never) (atom a_ok) no_clause)) 1 ≡ EndsRaised (VAtom a_if_clause)
+
+-- `[1 | a]`
+abbrev pub ImproperList : Type 0
+ImproperList = asks (All (Table MakeListOn) (two (number 1) (atom a_a))) 1 ≡ EndsRaised (VAtom a_badarg)
+
+-- `case 1 of X when a + 1 -> a; X -> X end`: a test that raises fails
+abbrev pub GuardHides : Type 0
+GuardHides = shows (asks (display (First (number 1) (Alts (clause (one_pattern (PVar 0)) (or (one (operation o.Add (atom a_a) (number 1))) never) (atom a_a)
+    (body (one_pattern (PVar 0)) (Var 0)))))) 1) ≡ Some (int 1)
+
+-- `f(X) when X bsl 127 > 0 -> a; f(_) -> b.`: a limit in a guard ends the process
+abbrev pub limiting : Clauses
+limiting = clause (one_pattern (PVar 0)) (or (one (operation o.Gt (operation o.Bsl (Var 0) (number 127)) (number 0))) never) (atom a_a)
+    (body (one_pattern PWild) (atom a_b))
+
+abbrev pub GuardLimits : Type 0
+GuardLimits = ask_of (program (number 0) (function a_s 1 limiting ∷ [])) (standing (display (All (Call 1) (one (number 1)))) 10) ≡ EndsRaised (VAtom a_system_limit)
+
+-- `a` is no number, so the test raises and the second clause takes it
+abbrev pub GuardFails : Type 0
+GuardFails = shows (ask_of (program (number 0) (function a_s 1 limiting ∷ [])) (standing (display (All (Call 1) (one (atom a_a)))) 10)) ≡ Some (VAtom a_b)
+
+-- a display costs one reduction, and `a ! b` is `badarg` with none left
+abbrev pub ActCosts : Type 0
+ActCosts = asks (display (number 1)) 0 ≡ EndsRaised (VAtom a_reductions)
+
+abbrev pub NoReceiver : Type 0
+NoReceiver = asks (All Send (two (atom a_a) (atom a_b))) 0 ≡ EndsRaised (VAtom a_badarg)
+
+-- the machine of a program at its start
+abbrev pub machine : Tree → List Function → ℕ → Machine
+machine t functions reductions = start_of (program t functions) reductions
+
+-- a legal and complete order, what it displays, and how the processes ended
+abbrev pub Runs : Machine → List Entry → List Value → List Process → Type 0
+Runs m order shown processes = IsLegal m order × IsComplete m order × ((after m order).shown ≡ shown) × ((after m order).processes ≡ processes)
+
+abbrev pub gone : ℕ → Entry
+gone pid = e.Gone pid 0 0 0
+
+-- `main() -> self() ! a, self() ! b, self() ! c, receive b -> erlang:display(b) end, receive X -> erlang:display(X) end,
+-- receive Y -> erlang:display(Y) end.`
+abbrev pub to_self : ℕ → Tree
+to_self a = All Send (two own (atom a))
+
+abbrev pub shown_next : ℕ → Tree
+shown_next x = Receive (body (one_pattern (PVar x)) (display (Var x)))
+
+abbrev pub selective : Tree
+selective = item (to_self a_a) (item (to_self a_b) (item (to_self a_c)
+    (item (Receive (body (one_pattern (PVal (VAtom a_b))) (display (atom a_b)))) (item (shown_next 0) (shown_next 1)))))
+
+abbrev pub SelectiveReceive : Type 0
+SelectiveReceive = Runs (machine selective [] 1_000)
+    (e.Sent 1 1 ∷ e.Sent 1 1 ∷ e.Sent 1 1 ∷ e.Saw 1 3 ∷ e.Shown 1 ∷ e.Shown 1 ∷ e.Shown 1 ∷ e.Ended 1 ∷ gone 1 ∷ [])
+    (VAtom a_b ∷ VAtom a_a ∷ VAtom a_c ∷ []) (Left Normal ∷ [])
+
+-- `main() -> spawn(m, s, [self(), a]), spawn(m, s, [self(), b]), receive X -> erlang:display(X) end, receive Y ->
+-- erlang:display(Y) end.` and `s(P, V) -> P ! V.`
+abbrev pub spawned : ℕ → Tree
+spawned a = All Spawn (and (atom a_m) (two (atom a_s) (All (Table MakeList) (two own (atom a)))))
+
+abbrev pub receiver : Tree
+receiver = item (spawned a_a) (item (spawned a_b) (item (shown_next 0) (shown_next 1)))
+
+abbrev pub sender : Function
+sender = function a_s 2 (body (pattern_and (PVar 0) (one_pattern (PVar 1))) (All Send (two (Var 0) (Var 1))))
+
+abbrev pub two_senders : Machine
+two_senders = machine receiver (sender ∷ []) 1_000
+
+abbrev pub their_ends : List Entry
+their_ends = e.Saw 1 2 ∷ e.Shown 1 ∷ e.Shown 1 ∷ e.Ended 1 ∷ e.Ended 2 ∷ e.Ended 3 ∷ gone 1 ∷ gone 2 ∷ gone 3 ∷ []
+
+abbrev pub all_left : List Process
+all_left = Left Normal ∷ Left Normal ∷ Left Normal ∷ []
+
+-- the two sends come in either order
+abbrev pub SecondFirst : Type 0
+SecondFirst = Runs two_senders (e.Started 1 2 ∷ e.Started 1 3 ∷ e.Sent 3 1 ∷ e.Sent 2 1 ∷ their_ends) (VAtom a_b ∷ VAtom a_a ∷ []) all_left
+
+abbrev pub FirstFirst : Type 0
+FirstFirst = Runs two_senders (e.Started 1 2 ∷ e.Started 1 3 ∷ e.Sent 2 1 ∷ e.Sent 3 1 ∷ their_ends) (VAtom a_a ∷ VAtom a_b ∷ []) all_left
+
+-- both are seen before both were sent
+abbrev pub SeenTooEarly : Type 0
+SeenTooEarly = IsLegal two_senders (e.Started 1 2 ∷ e.Started 1 3 ∷ e.Sent 3 1 ∷ e.Saw 1 2 ∷ e.Sent 2 1 ∷ []) → ⊥
+
+-- an order that stops early isn't complete
+abbrev pub Incomplete : Type 0
+Incomplete = IsComplete two_senders (e.Started 1 2 ∷ []) → ⊥
+
+-- `main() -> main().` with 10 reductions
+abbrev pub RunsOut : Type 0
+RunsOut = Runs (machine (All (Call 0) end) [] 10) (e.Ended 1 ∷ gone 1 ∷ []) [] (Left (Exited (VAtom a_reductions)) ∷ [])
+
+-- `main() -> spawn(m, s, []), receive X -> X end.` and `s() -> receive X -> X end.`: both wait, and both are stopped
+abbrev pub waits : Tree
+waits = Receive (body (one_pattern (PVar 0)) (Var 0))
+
+abbrev pub TwoStopped : Type 0
+TwoStopped = Runs (machine (item (All Spawn (and (atom a_m) (two (atom a_s) (All (Table MakeList) end)))) waits) (function a_s 0 (body no_pattern waits) ∷ []) 1_000)
+    (e.Started 1 2 ∷ e.Stopped 2 ∷ gone 2 ∷ e.Stopped 1 ∷ gone 1 ∷ []) [] (Left Waiting ∷ Left Waiting ∷ [])
+
+-- one that still runs is in the way
+abbrev pub NotStopped : Type 0
+NotStopped = IsLegal two_senders (e.Started 1 2 ∷ e.Started 1 3 ∷ e.Stopped 1 ∷ []) → ⊥
+
+-- `main() -> spawn(m, a, []).`: no such function, so the child ends with `undef`
+abbrev pub ChildUndef : Type 0
+ChildUndef = Runs (machine (All Spawn (and (atom a_m) (two (atom a_a) (All (Table MakeList) end)))) [] 1_000)
+    (e.Started 1 2 ∷ e.Ended 2 ∷ e.Ended 1 ∷ gone 2 ∷ gone 1 ∷ []) [] (Left Normal ∷ Left (Exited (VAtom a_undef)) ∷ [])

@@ -1,0 +1,20 @@
+//! Values of the language as terms over references to bitstrings: their order, arithmetic, sizes and texts.
+#![tactic(auto)]
+
+mod arithmetic;
+mod computed;
+mod entry;
+mod laws;
+mod look;
+mod measure;
+mod rows;
+mod runs;
+mod term;
+
+pub use arithmetic::arith;
+pub use computed::Arith;
+pub use entry::Entry;
+pub use laws::{complete_is_last, each_asks};
+pub use look::Look;
+pub use measure::{depth, weight};
+pub use term::{Items, Term};
