@@ -1,23 +1,21 @@
 -- The laws of calls and their arguments.
-use Rattle.std.proofs.Common.{◌≡◌, ◌≢◌, ℕ, suc, ◌+◌, ◌≤◌, ◌<◌, max, Bool, true, false, IsTrue, List, [], ◌∷◌, ◌++◌, Option, Some, None, refl, sym, ap, subst, ◌∙◌, arith, pos, ◌⊎◌, inl, inr}
+use Rattle.std.proofs.Common.{◌≡◌, ℕ, ◌+◌, ◌≤◌, ◌<◌, max, false, IsTrue, List, [], ◌∷◌, ◌++◌, Some, refl, sym, ap, ◌∙◌, arith, ◌⊎◌, inl, inr}
 use Rattle.erl_syntax.specs.declared.span.Span.{Span}
 use Rattle.erl_syntax.specs.declared.token.TokenKind.{TokenKind}
 use Rattle.erl_syntax.specs.declared.token.TokenKind.TheVariants as k
 use Rattle.erl_syntax.specs.declared.expr.Expr.{Expr}
 use Rattle.erl_syntax.specs.declared.expr.Expr.TheVariants as x
-use Rattle.erl_syntax.specs.declared.expr.Op.{Op}
-use Rattle.erl_syntax.specs.declared.expr.Op.TheVariants as o
 use Rattle.erl_syntax.specs.declared.expr.Prefix.{Prefix}
 use Rattle.erl_syntax.specs.Word.{Word}
-use Rattle.erl_syntax.specs.Operators.{operator_of, level_of, prefix_of}
-use Rattle.erl_syntax.specs.Grammar.{Mode, InBody, InGuard, InSize, Context, under, inside, Limits, right_of, Part, Goal, Mark, At, The, Of, Level, Tail, Operand, Common, AfterAtom, Qualified, Exprs, MoreExprs, Produces, level, operand, alone, right, left, prefix, atom, macro, tuple, list, case, receive, if_, common, variable, integer, character, string, bits, paren, call, no_call, unqualified, qualified, no_exprs, exprs, more_exprs, end_exprs, Spells, takes, begins, this, expands}
+use Rattle.erl_syntax.specs.Operators.{prefix_of}
+use Rattle.erl_syntax.specs.Grammar.{Context, under, inside, Limits, Goal, Mark, The, Of, Level, Tail, Operand, AfterAtom, Qualified, Exprs, MoreExprs, level, operand, prefix, atom, macro, tuple, list, case, receive, if_, common, variable, integer, character, string, bits, paren, call, no_call, unqualified, qualified, no_exprs, exprs, more_exprs, end_exprs, Spells, takes, begins, this, expands}
 use Rattle.clause_read.specs.declared.placed.Placed.{Placed}
 use Rattle.clause_read.specs.declared.fault.Cause.TheVariants.{Syntax, TooDeep}
-use Rattle.clause_read.specs.Reading.{Passes, IsRefused, GoesOn, IsWide, Follows, SameHead, closed, nothing}
-use Rattle.clause_read.specs.Wanted.{calls, lengthens, extends, begins_expr, level_in, tail_in, operand_in, after_atom_in, qualified_in, exprs_in, more_exprs_in, NoMark, no_mark_end, no_mark, Closes}
-use Rattle.clause_read.proofs.Passing.{Within, Behind, Spelled}
-use Rattle.clause_read.proofs.Levels.{same_placed, same_pair, no_prefix, no_operator, extends_with}
-use Rattle.clause_read.proofs.Operands.{some_place, some_word, some_expr, level_completed, operand_spells, deeper, deeper_wide, mark_word}
+use Rattle.clause_read.specs.Reading.{Passes, IsRefused, Follows, SameHead, closed, nothing}
+use Rattle.clause_read.specs.Wanted.{calls, extends, begins_expr, level_in, after_atom_in, qualified_in, exprs_in, more_exprs_in, NoMark, no_mark_end, no_mark, Closes}
+use Rattle.clause_read.proofs.Passing.{Behind, Spelled}
+use Rattle.clause_read.proofs.Levels.{same_pair}
+use Rattle.clause_read.proofs.Operands.{some_place, deeper, deeper_wide, mark_word}
 
 -- ---- How an expression begins
 

@@ -1,5 +1,5 @@
 -- Where only a deeper module could go on.
-use Rattle.std.proofs.Common.{append_assoc, ◌≡◌, ◌≢◌, ℕ, suc, ◌+◌, ◌≤◌, ◌<◌, max, Bool, true, false, IsTrue, List, [], ◌∷◌, ◌++◌, drop, Option, Some, None, refl, sym, ap, subst, ◌∙◌, arith, pos, ◌⊎◌, inl, inr}
+use Rattle.std.proofs.Common.{append_assoc, ◌≡◌, ◌≢◌, ℕ, ◌+◌, ◌≤◌, ◌<◌, max, true, false, IsTrue, List, [], ◌∷◌, ◌++◌, drop, Some, None, refl, sym, ap, subst, ◌∙◌, arith, pos, ◌⊎◌, inl, inr}
 use Rattle.std.proofs.lemmas.Bool.{cases_lt}
 use Rattle.erl_syntax.specs.declared.span.Span.{Span}
 use Rattle.erl_syntax.specs.declared.token.TokenKind.{TokenKind}
@@ -11,16 +11,16 @@ use Rattle.erl_syntax.specs.declared.expr.Op.TheVariants as o
 use Rattle.erl_syntax.specs.declared.expr.Prefix.{Prefix}
 use Rattle.erl_syntax.specs.Word.{Word}
 use Rattle.erl_syntax.specs.Operators.{operator_of, level_of, prefix_of}
-use Rattle.erl_syntax.specs.Grammar.{Mode, InBody, InGuard, InSize, Context, under, inside, Limits, right_of, Part, Goal, Mark, At, The, Of, Level, Tail, Operand, Common, AfterAtom, Qualified, Exprs, MoreExprs, Produces, level, operand, alone, right, left, prefix, atom, macro, tuple, list, case, receive, if_, common, variable, integer, character, string, bits, paren, call, no_call, unqualified, qualified, no_exprs, exprs, more_exprs, end_exprs, Spells, takes, begins, this, expands}
+use Rattle.erl_syntax.specs.Grammar.{InBody, InSize, Context, under, inside, Limits, right_of, Goal, Mark, Of, Level, Tail, Exprs, MoreExprs, level, operand, alone, right, left, prefix, atom, macro, common, variable, integer, character, paren, no_call, unqualified, no_exprs, exprs, end_exprs, Spells, takes, begins, this, expands}
 use Rattle.clause_read.specs.declared.placed.Placed.{Placed}
 use Rattle.clause_read.specs.declared.fault.Cause.TheVariants.{Syntax, TooDeep}
-use Rattle.clause_read.specs.Reading.{Passes, IsRefused, GoesOn, IsWide, Follows, SameHead, closed, nothing}
+use Rattle.clause_read.specs.Reading.{IsRefused, GoesOn, Follows, SameHead, closed}
 use Rattle.clause_read.specs.Source.{StandsAt}
 use Rattle.clause_read.specs.declared.source.Numbered.{Numbered}
-use Rattle.clause_read.specs.Wanted.{calls, lengthens, extends, begins_size, level_in, tail_in, operand_in, after_atom_in, qualified_in, exprs_in, more_exprs_in, NoMark, no_mark_end, no_mark, BeginsNoSize, NoSize, at_end, at_other, FirstCause, only_deeper, no_size}
-use Rattle.clause_read.proofs.Passing.{Within, Behind, Spelled, spells_at}
+use Rattle.clause_read.specs.Wanted.{extends, begins_size, tail_in, operand_in, exprs_in, NoMark, no_mark_end, no_mark, BeginsNoSize, NoSize, at_end, at_other, FirstCause, only_deeper, no_size}
+use Rattle.clause_read.proofs.Passing.{spells_at}
 use Rattle.clause_read.proofs.Levels.{extends_with}
-use Rattle.clause_read.proofs.Operands.{some_place, some_word, some_expr, level_completed, level_with, operand_spells, deeper, deeper_wide, mark_word, close_paren, module_word, no_size_operand}
+use Rattle.clause_read.proofs.Operands.{some_place, some_word, level_completed, level_with, operand_spells, deeper, deeper_wide, mark_word, close_paren, module_word, no_size_operand}
 
 -- ---- An operator, with a left side that leaves no room
 

@@ -1,5 +1,5 @@
 -- What each exit of the readers of sizes says.
-use Rattle.std.proofs.Common.{◌≡◌, ◌≢◌, ℕ, ℤ, suc, ◌+◌, ◌≤◌, ◌<◌, max, Bool, true, false, IsTrue, List, [], ◌∷◌, ◌++◌, append_assoc, nat_lt, if◌then◌else◌, drop, Option, Some, None, Result, Ok, Err, refl, sym, ap, subst, ◌∙◌, arith, pos, ◌⊎◌, inl, inr}
+use Rattle.std.proofs.Common.{◌≡◌, ◌≢◌, ℕ, ℤ, ◌+◌, ◌≤◌, ◌<◌, max, Bool, true, false, List, [], ◌∷◌, ◌++◌, append_assoc, nat_lt, if◌then◌else◌, drop, Option, Some, None, Result, Ok, Err, refl, sym, ap, subst, ◌∙◌, arith, pos, ◌⊎◌, inl, inr}
 use Rattle.std.proofs.lemmas.Bool.{cases_lt}
 use Rattle.std.proofs.lemmas.Bool.Decides.{nat_tests}
 use Rattle.erl_syntax.specs.declared.span.Span.{Span}
@@ -12,19 +12,19 @@ use Rattle.erl_syntax.specs.declared.expr.Op.TheVariants as o
 use Rattle.erl_syntax.specs.declared.expr.Prefix.{Prefix}
 use Rattle.erl_syntax.specs.Word.{Word}
 use Rattle.erl_syntax.specs.Operators.{operator_of, level_of, prefix_of}
-use Rattle.erl_syntax.specs.Grammar.{Mode, Context, InBody, InSize, under, inside, right_of, Goal, Mark, Of, Level, Tail}
+use Rattle.erl_syntax.specs.Grammar.{Mode, Context, InBody, InSize, under, inside, right_of, Goal}
 use Rattle.clause_read.specs.Source.{StandsAt, number_of}
 use Rattle.clause_read.specs.declared.source.Numbered.{Numbered}
 use Rattle.clause_read.specs.declared.placed.Placed.{Placed}
 use Rattle.clause_read.specs.declared.fault.Cause.{Cause}
 use Rattle.clause_read.specs.declared.fault.Cause.TheVariants.{Syntax, TooDeep}
 use Rattle.clause_read.specs.declared.fault.Fault.{Fault}
-use Rattle.clause_read.specs.Reading.{Passes, IsRefused, Gives, closed, nothing}
-use Rattle.clause_read.specs.Wanted.{calls, extends, level_in, tail_in, operand_in, after_atom_in, qualified_in, exprs_in, more_exprs_in, mark_in, joined, IsAt, AtomAt, ModuleAt, OperatorAt, NoMark, no_mark_end, no_mark, NoModule, NoneInSize, NoneFollows, ended, other, IsNoOperator, Closes, NoSize, at_end, at_other, BeginsNoSize, FirstCause, only_deeper, no_size as no_size_there}
-use Rattle.clause_read.proofs.Passing.{Within, same_kinds, closed_within, Behind, Spelled, and_then, refused_after, first_of_two, at_token, at_place, refused_at, remade, fault_after, fault_first}
+use Rattle.clause_read.specs.Reading.{Passes, IsRefused, Gives, closed}
+use Rattle.clause_read.specs.Wanted.{calls, extends, level_in, tail_in, operand_in, after_atom_in, qualified_in, exprs_in, more_exprs_in, mark_in, joined, IsAt, AtomAt, ModuleAt, OperatorAt, NoMark, no_mark, NoModule, NoneInSize, NoneFollows, ended, other, Closes, at_end, at_other, FirstCause, only_deeper, no_size as no_size_there}
+use Rattle.clause_read.proofs.Passing.{Within, same_kinds, closed_within, Behind, and_then, refused_after, first_of_two, at_token, refused_at, remade, fault_after, fault_first}
 use Rattle.clause_read.proofs.Levels.{same_placed, same_pair, tighter, calls_within, on_level, on_operand, behind_level, tail_spelled, on_alone, on_right, on_left, behind_right, right_spelled}
-use Rattle.clause_read.proofs.Operands.{on_variable, on_integer, on_character, on_atom, on_prefix, in_paren, on_paren, on_macro, no_size, prefix_too_deep, paren_too_deep, macro_refused, on_mark, mark_refused, behind_mark, mark_spelled, mark_word}
-use Rattle.clause_read.proofs.Calls.{on_call, call_too_deep, on_no_call, on_unqualified, on_qualified, name_refused, open_refused, remote_too_deep, on_no_exprs, expr_and_more, with_more, on_exprs, on_comma, on_end, more_refused, behind_expr, more_spelled}
+use Rattle.clause_read.proofs.Operands.{on_variable, on_integer, on_character, on_atom, on_prefix, on_paren, on_macro, no_size, prefix_too_deep, paren_too_deep, macro_refused, behind_mark, mark_spelled}
+use Rattle.clause_read.proofs.Calls.{on_call, call_too_deep, on_no_call, on_unqualified, on_qualified, name_refused, open_refused, remote_too_deep, on_no_exprs, expr_and_more, on_exprs, on_comma, on_end, more_refused, behind_expr, more_spelled}
 use Rattle.clause_read.proofs.Depths.{operator_too_deep, exprs_too_deep, exprs_refused}
 
 -- one reader's answer is another's

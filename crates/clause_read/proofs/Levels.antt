@@ -1,5 +1,5 @@
 -- The laws of operators and operands: what each token does to what is wanted.
-use Rattle.std.proofs.Common.{◌≡◌, ◌≢◌, ℕ, suc, ◌+◌, ◌-◌, ◌≤◌, ◌<◌, max, nat_le, Bool, true, false, IsTrue, List, [], ◌∷◌, ◌++◌, Option, Some, None, refl, sym, ap, subst, ◌∙◌, arith, pos, inl, inr, ◌⊎◌}
+use Rattle.std.proofs.Common.{◌≡◌, ◌≢◌, ℕ, ◌+◌, ◌≤◌, ◌<◌, max, nat_le, true, IsTrue, List, [], ◌∷◌, ◌++◌, Option, Some, None, refl, sym, ap, subst, ◌∙◌, arith, inr, ◌⊎◌}
 use Rattle.std.proofs.lemmas.Bool.Decides.{nat_tests}
 use Rattle.erl_syntax.specs.declared.span.Span.{Span}
 use Rattle.erl_syntax.specs.declared.token.TokenKind.{TokenKind}
@@ -10,13 +10,11 @@ use Rattle.erl_syntax.specs.declared.expr.Op.{Op}
 use Rattle.erl_syntax.specs.declared.expr.Op.TheVariants as o
 use Rattle.erl_syntax.specs.declared.expr.Prefix.{Prefix}
 use Rattle.erl_syntax.specs.Word.{Word}
-use Rattle.erl_syntax.specs.Operators.{operator_of, level_of, prefix_of}
-use Rattle.erl_syntax.specs.Names.{module_macro}
-use Rattle.erl_syntax.specs.Grammar.{Mode, InBody, InGuard, InSize, Context, under, inside, Limits, right_of, Part, Goal, Mark, At, The, Of, Level, Tail, Operand, Common, AfterAtom, Qualified, Produces, level, operand, alone, right, left, prefix, atom, macro, tuple, list, case, receive, if_, common, variable, integer, character, string, bits, paren, Spells, takes, begins, this, expands}
+use Rattle.erl_syntax.specs.Operators.{operator_of, level_of}
+use Rattle.erl_syntax.specs.Grammar.{InBody, Context, under, Limits, right_of, Goal, Of, Level, Tail, Operand, level, operand, alone, right, left, Spells, this, expands}
 use Rattle.clause_read.specs.declared.placed.Placed.{Placed}
-use Rattle.clause_read.specs.declared.fault.Cause.TheVariants.{Syntax, TooDeep}
-use Rattle.clause_read.specs.Reading.{Passes, IsRefused, GoesOn, IsWide, Follows, SameHead, closed, nothing}
-use Rattle.clause_read.specs.Wanted.{calls, lengthens, extends, level_in, tail_in, operand_in, IsNoOperator, NoneFollows, ended, other}
+use Rattle.clause_read.specs.Reading.{Passes, Follows, SameHead, nothing}
+use Rattle.clause_read.specs.Wanted.{calls, lengthens, extends, level_in, tail_in, operand_in, NoneFollows, ended, other}
 use Rattle.clause_read.proofs.Passing.{Within, Behind, Spelled}
 
 pub same_placed : {a b : Span} {e f : Expr} {d g : ℕ} → a ≡ b → e ≡ f → d ≡ g → (let P : Placed Expr = record { at = a; tree = e; height = d } in P) ≡ (let P : Placed Expr = record { at = b; tree = f; height = g } in P)

@@ -1,23 +1,22 @@
 -- The laws of operands: what each token does where an operand is wanted.
-use Rattle.std.proofs.Common.{zero, inl, inr, ◌≡◌, ◌≢◌, ℕ, suc, ◌+◌, ◌≤◌, ◌<◌, max, Bool, true, false, IsTrue, List, [], ◌∷◌, ◌++◌, drop, Option, Some, None, refl, sym, ap, subst, ◌∙◌, arith, pos, codes, ◌⊎◌}
+use Rattle.std.proofs.Common.{zero, inl, inr, ◌≡◌, ℕ, suc, ◌+◌, ◌≤◌, ◌<◌, Bool, false, IsTrue, List, [], ◌∷◌, ◌++◌, drop, Option, Some, refl, sym, ap, subst, ◌∙◌, arith, pos}
 use Rattle.std.proofs.lemmas.Bool.{cases_lt}
 use Rattle.erl_syntax.specs.declared.span.Span.{Span}
 use Rattle.erl_syntax.specs.declared.token.TokenKind.{TokenKind}
 use Rattle.erl_syntax.specs.declared.token.TokenKind.TheVariants as k
 use Rattle.erl_syntax.specs.declared.expr.Expr.{Expr}
 use Rattle.erl_syntax.specs.declared.expr.Expr.TheVariants as x
-use Rattle.erl_syntax.specs.declared.expr.Op.{Op}
 use Rattle.erl_syntax.specs.declared.expr.Prefix.{Prefix}
 use Rattle.erl_syntax.specs.Word.{Word}
-use Rattle.erl_syntax.specs.Operators.{operator_of, level_of, prefix_of}
+use Rattle.erl_syntax.specs.Operators.{prefix_of}
 use Rattle.erl_syntax.specs.Names.{module_macro}
-use Rattle.erl_syntax.specs.Grammar.{Mode, InBody, InGuard, InSize, Context, under, inside, Limits, right_of, Part, Goal, Mark, At, The, Of, Level, Tail, Operand, Common, AfterAtom, Qualified, Produces, level, operand, alone, right, left, prefix, atom, macro, tuple, list, case, receive, if_, common, variable, integer, character, string, bits, paren, call, no_call, unqualified, qualified, no_exprs, exprs, more_exprs, end_exprs, Spells, takes, begins, this, expands}
+use Rattle.erl_syntax.specs.Grammar.{Mode, InBody, InSize, Context, under, inside, Limits, Goal, Mark, The, Of, Level, Tail, Operand, AfterAtom, Qualified, level, operand, alone, prefix, atom, macro, tuple, list, case, receive, if_, common, variable, integer, character, string, bits, paren, unqualified, Spells, takes, begins, this, expands}
 use Rattle.clause_read.specs.declared.placed.Placed.{Placed}
 use Rattle.clause_read.specs.declared.fault.Cause.TheVariants.{Syntax, TooDeep}
-use Rattle.clause_read.specs.Reading.{Passes, IsRefused, GoesOn, IsWide, Follows, SameHead, closed, nothing}
-use Rattle.clause_read.specs.Wanted.{calls, lengthens, extends, level_in, tail_in, operand_in, after_atom_in, qualified_in, exprs_in, more_exprs_in, mark_in, IsAt, NoMark, no_mark_end, no_mark, NoModule, no_word, no_module, BeginsNoSize, NoSize, at_end, at_other}
-use Rattle.clause_read.proofs.Passing.{Within, Behind, Spelled}
-use Rattle.clause_read.proofs.Levels.{same_placed, same_pair, no_prefix, no_operator}
+use Rattle.clause_read.specs.Reading.{Passes, IsRefused, IsWide, SameHead, closed, nothing}
+use Rattle.clause_read.specs.Wanted.{calls, level_in, operand_in, after_atom_in, qualified_in, mark_in, IsAt, NoMark, no_mark_end, no_mark, NoModule, no_word, no_module, NoSize, at_end, at_other}
+use Rattle.clause_read.proofs.Passing.{Behind, Spelled}
+use Rattle.clause_read.proofs.Levels.{same_placed, no_prefix}
 
 one_prefix : {found : Option Prefix} {p q : Prefix} → found ≡ Some p → found ≡ Some q → p ≡ q
 one_prefix a b = cc

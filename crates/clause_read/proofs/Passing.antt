@@ -1,5 +1,5 @@
 -- How passes compose.
-use Rattle.std.proofs.Common.{◌≡◌, List, [], ◌∷◌, ◌++◌, refl, sym, ap, subst, append_assoc, ◌∙◌, drop, ℕ, Err, IsTrue, Bool, true, false}
+use Rattle.std.proofs.Common.{◌≡◌, List, [], ◌∷◌, ◌++◌, refl, sym, ap, subst, append_assoc, ◌∙◌, drop, ℕ, Err, IsTrue, Bool}
 use Rattle.erl_syntax.specs.declared.token.TokenKind.{TokenKind}
 use Rattle.erl_syntax.specs.Word.{Word}
 use Rattle.erl_syntax.specs.Grammar.{Goal, Limits, Spells}
@@ -7,7 +7,7 @@ use Rattle.clause_read.specs.declared.fault.Fault.{Fault}
 use Rattle.clause_read.specs.declared.fault.Fault.TheVariants.{Memory, Refused}
 use Rattle.clause_read.specs.declared.fault.Cause.{Cause}
 use Rattle.clause_read.specs.declared.fault.Cause.TheVariants.{Syntax, TooDeep, UnknownAttribute, UnknownSegmentType}
-use Rattle.clause_read.specs.Reading.{Passes, IsRefused, GoesOn, Excused, Stops, Allows, IsWide, Follows, SameHead, closed, nothing, Gives}
+use Rattle.clause_read.specs.Reading.{Passes, IsRefused, GoesOn, Excused, IsWide, Follows, SameHead, closed, nothing, Gives}
 
 pub same_front : (f w z : List Word) → SameHead w z → SameHead (f ++ w) (f ++ z)
 same_front [] w z s = s

@@ -1,5 +1,5 @@
 -- The words from a place on.
-use Rattle.std.proofs.Common.{◌≡◌, ℕ, suc, ◌+◌, ◌<◌, ◌≤◌, List, [], ◌∷◌, drop, length, get_or, map, ap, sym, refl, ◌∙◌, add-one, arith, subst}
+use Rattle.std.proofs.Common.{◌≡◌, ℕ, suc, ◌+◌, ◌<◌, ◌≤◌, List, [], ◌∷◌, drop, length, get_or, map, ap, sym, refl, ◌∙◌, arith, subst}
 use Rattle.std.proofs.Math.Seq.{drop-cons}
 use Rattle.std.proofs.Math.ListN.{drop_of_length-le}
 use Rattle.std.proofs.lemmas.List.{drop-map, length-map}
@@ -9,7 +9,7 @@ use Rattle.erl_syntax.specs.declared.token.TokenKind.TheVariants as k
 use Rattle.clause_read.specs.Source.{words, word_of, number_of, characters_of, StandsAt}
 use Rattle.erl_syntax.specs.Names.{module_macro}
 use Rattle.erl_syntax.specs.Tokens.{token_text}
-use Rattle.clause_read.specs.Wanted.{IsAt, AtomAt, ModuleAt, NoMark, no_mark, no_mark_end, NoModule, no_word, no_module}
+use Rattle.clause_read.specs.Wanted.{IsAt, AtomAt, NoMark, no_mark, no_mark_end, NoModule, no_word, no_module}
 use Rattle.clause_read.specs.declared.source.Numbered.{Numbered}
 
 words_from : (text : List ℕ) (ns : List Numbered) (i : ℕ) (n : Numbered) → i < length ns → get_or ns i n ≡ n → drop i (words text ns) ≡ word_of text n ∷ drop (i + 1) (words text ns)

@@ -1,4 +1,4 @@
-use Rattle.std.proofs.Common.{rules, arith, ◌∙◌, ◌≡◌, sym, drop, inl, inr}
+use Rattle.std.proofs.Common.{arith, ◌∙◌, sym, drop, inl, inr}
 use denote.Enum.Bare.{differs_false}
 use Rattle.erl_syntax.specs.contracts.expr.Op.{the_type}
 use Rattle.clause_read.proofs.Exits.{operator_end, operator_none, operator_other}

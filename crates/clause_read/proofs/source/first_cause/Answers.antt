@@ -1,4 +1,4 @@
-use Rattle.std.proofs.Common.{rules, drop, ◌≡◌, refl}
+use Rattle.std.proofs.Common.{rules, drop}
 use Rattle.clause_read.proofs.Depths.{cause_none, cause_deep, cause_other}
 use Rattle.clause_read.proofs.source.first_cause.Goals as goal
 

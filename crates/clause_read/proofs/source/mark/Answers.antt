@@ -1,4 +1,4 @@
-use Rattle.std.proofs.Common.{rules, drop, ◌≡◌, refl}
+use Rattle.std.proofs.Common.{rules, drop}
 use Rattle.clause_read.proofs.Operands.{mark_passes, mark_refused}
 use Rattle.clause_read.proofs.source.mark.Goals as goal
 

@@ -1,5 +1,5 @@
-use Rattle.std.proofs.Common.{rules, ◌≡◌, refl}
-use Rattle.clause_read.proofs.Words.{is_yes, is_no, is_none}
+use Rattle.std.proofs.Common.{rules}
+use Rattle.clause_read.proofs.Words.{is_no, is_none}
 use Rattle.clause_read.proofs.source.Source.atom.Goals as goal
 
 pub returns-in_default-clause-atom : goal.returns-in_default-clause-atom

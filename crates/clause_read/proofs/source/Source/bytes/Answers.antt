@@ -1,4 +1,4 @@
-use Rattle.std.proofs.Common.{rules, arith, ◌-◌, ◌≡◌, ◌∙◌, ap, sym, drop, take, length}
+use Rattle.std.proofs.Common.{arith, ◌-◌, ◌∙◌, ap, drop, take}
 use Rattle.clause_read.proofs.Words.{bytes_are, words_length}
 use Rattle.clause_read.proofs.source.Source.bytes.Goals as goal
 

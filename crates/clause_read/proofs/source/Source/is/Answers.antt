@@ -1,4 +1,4 @@
-use Rattle.std.proofs.Common.{rules, ◌≡◌, ◌∙◌, sym}
+use Rattle.std.proofs.Common.{rules, ◌∙◌, sym}
 use denote.Enum.Bare.{same_true}
 use Rattle.erl_syntax.specs.contracts.token.TokenKind.{the_type}
 use Rattle.clause_read.proofs.Words.{is_yes, is_no, is_none}

@@ -1,4 +1,4 @@
-use Rattle.std.proofs.Common.{rules, sym, ◌∙◌, ◌+◌, drop, drop, ◌≡◌, refl}
+use Rattle.std.proofs.Common.{rules, sym, ◌∙◌, ◌+◌, drop, drop}
 use Rattle.std.specs.Cmp.Lexicographic.{other_text}
 use Rattle.clause_read.proofs.Words.{no_variable, other_name}
 use Rattle.clause_read.proofs.source.Source.is_module.Goals as goal
