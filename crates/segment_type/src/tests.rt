@@ -1,4 +1,4 @@
-use crate::type_segment;
+use crate::{one_type, type_segment};
 use bits_value::{Endian, Sign, UtfKind};
 use erl_syntax::{
     Expr, Kind, Listed, SegFault, Segment, SideUse, SizeUse, Span, Spec, Text, Typed,
@@ -254,6 +254,7 @@ fn each_fault_is_told_and_the_first_of_two(rt: HostRuntime) -> Result<(), Fail> 
 #[test]
 fn open_segments_stand_last_and_in_no_generator(rt: HostRuntime) -> Result<(), Fail> {
     let alloc = rt.alloc();
+    one_type();
     let open = segment(alloc, Shape::Value, &[Spec::Bitstring])?;
     let whole = typed(
         Kind::Bitstring,
