@@ -1,7 +1,6 @@
 pub mod Arithmetic
 pub mod Atoms
 pub mod Bounds
-pub mod BuiltIn
 pub mod BuiltIns
 pub mod Calls
 pub mod Characters

@@ -3,7 +3,7 @@ use Rattle.std.specs.Prelude.{◌≡◌, ℕ, true, false, List, [], ◌∷◌, 
 use Rattle.erl_syntax.specs.declared.expr.Op.TheVariants as o
 use Rattle.term_value.specs.Value.{Value, VAtom, VTuple, VList, VBits, none, more, row}
 use Rattle.term_value.specs.Atoms.{a_badarg, a_badmatch, a_bad_generator, a_bad_filter, a_if_clause, a_case_clause, a_system_limit, a_reductions, a_undef, a_true, a_false, a_ok}
-use Rattle.term_value.specs.BuiltIn.{Self}
+use Rattle.erl_syntax.specs.declared.built_in.BuiltIn.TheVariants.{SelfPid}
 use Rattle.term_value.specs.Step.{Show}
 use Rattle.term_value.specs.Tree.{Build, Operate, Native, MakeTuple, MakeList, MakeListOn, Table, Call, Send, Display, Spawn, Variable, Equal, Tree, Val, Var, All, First, Choose, Receive, Gather, Items, Bits, Trees, end, and, Then, Last, Alts, AndAlso, OrElse, Clauses, no_clause, clause, Guard, never, or, give, from, test, InList, InBits, bottom, Pattern, PWild, PVar, PVal, PTuple, Patterns, no_pattern, pattern_and, Segments, no_segment, segment, Function, Module}
 use Rattle.term_value.specs.Local.{Local, At, Outcome, Wants, EndsDone, EndsRaised, ask_of}
@@ -32,7 +32,7 @@ abbrev pub display : Tree → Tree
 display t = All Display (one t)
 
 abbrev pub own : Tree
-own = All (Table (Native Self)) end
+own = All (Table (Native SelfPid)) end
 
 abbrev pub operation : Rattle.erl_syntax.specs.declared.expr.Op.Op → Tree → Tree → Tree
 operation op t u = All (Table (Operate op)) (two t u)
