@@ -17,6 +17,7 @@ pub mod Order
 pub mod Primitives
 pub mod PutIn
 pub mod Read
+pub mod ReadTrees
 pub mod Reports
 pub mod Result
 pub mod Rows
