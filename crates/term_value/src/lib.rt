@@ -2,12 +2,14 @@
 #![tactic(auto)]
 
 mod arithmetic;
+mod comparison;
 mod computed;
 mod look;
 mod measure;
 mod term;
 
 pub use arithmetic::arith;
+pub use comparison::compare;
 pub use computed::Arith;
 pub use look::Look;
 pub use measure::{depth, weight};
