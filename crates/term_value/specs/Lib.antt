@@ -27,6 +27,7 @@ pub mod Step
 pub mod Terms
 pub mod Tree
 pub mod Typing
+pub mod Texts
 pub mod Value
 pub mod Worked
 pub mod WorkedRuns

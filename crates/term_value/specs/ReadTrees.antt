@@ -1,6 +1,6 @@
 -- The trees of a checked module's expressions, patterns, guards, clauses and functions: each layer is read with what its parts
 -- came to.
-use Rattle.std.specs.Prelude.{ℕ, ℤ, pos, Bool, true, false, ◌&&◌, ◌||◌, not, List, [], ◌∷◌, map, Option, Some, None, nat_eq, int_lt}
+use Rattle.std.specs.Prelude.{ℕ, ℤ, pos, Bool, true, false, ◌&&◌, ◌||◌, not, List, [], ◌∷◌, map, Option, Some, None, nat_eq, int_lt, cond, ◌+◌, slice_index_or}
 use Rattle.std.specs.List.{flat_map}
 use Rattle.erl_syntax.specs.declared.span.Span.{Span}
 use Rattle.erl_syntax.specs.declared.expr.Expr.{Expr}
@@ -12,9 +12,11 @@ use Rattle.erl_syntax.specs.declared.pattern.Pattern as syntax_pattern
 use Rattle.erl_syntax.specs.declared.module.Clause as syntax_clause
 use Rattle.erl_syntax.specs.declared.module.Function as syntax_function
 use Rattle.erl_syntax.specs.declared.module.Name as syntax_name
+use Rattle.erl_syntax.specs.declared.module.Head as syntax_head
+use Rattle.erl_syntax.specs.declared.module.Module as syntax_module
 use Rattle.term_value.specs.Value.{VInt, VAtom, none}
 use Rattle.term_value.specs.Atoms.{a_ok}
-use Rattle.term_value.specs.Tree.{MakeTuple, Table, Items, Bits, Target, Anything, Variable, Tree, Val, Var, All, First, Choose, Receive, Gather, Alts, Guard, InList, InBits, bottom, Clauses, no_clause, clause, Function, Pattern, PWild, PVar, PVal, PTuple, PBits, PSame, no_pattern, pattern_and}
+use Rattle.term_value.specs.Tree.{MakeTuple, Table, Items, Bits, Target, Anything, Variable, Tree, Val, Var, All, First, Choose, Receive, Gather, Alts, Guard, InList, InBits, bottom, Clauses, no_clause, clause, Function, Module, Pattern, PWild, PVar, PVal, PTuple, PBits, PSame, no_pattern, pattern_and}
 use Rattle.term_value.specs.Read.{Reading, Read, expression, literal, trees, only, integers, Piece, pieces, trees, body, built_from, segments, listed, prefixed, operation, Line, patterns, guard_of, Branch, clauses, Qualifier, Generates, Filters, qualified, pattern_list, call}
 
 abbrev pub variable : ℕ → Read
@@ -103,3 +105,23 @@ is_exported (e ∷ exports) name arity = (nat_eq e.name name && int_eq e.arity (
 
 abbrev pub function_of : Reading → List syntax_name.Name → syntax_function.Function → Function
 function_of r exports f = record { name = f.name; arity = f.arity; exported = is_exported exports f.name f.arity; clauses = function_clauses r f.clauses }
+
+-- the place of a function, of functions that stand from a place on
+abbrev pub place_from : ℕ → List syntax_function.Function → ℕ → ℕ → ℕ
+place_from place [] name arity = place
+place_from place (f ∷ fs) name arity = cond (nat_eq f.name name && nat_eq f.arity arity) place (place_from (place + 1) fs name arity)
+
+-- a checked module has one name
+abbrev pub name_of : List syntax_head.Head → ℕ
+name_of [] = a_ok
+name_of (h ∷ heads) = h.name
+
+-- what the reading of a module looks up, where the variables have these numbers at their places
+abbrev pub reading : (Span → ℕ) → syntax_module.Module → Reading
+reading number_at m = record {
+    number_at = number_at; names = λ atom. slice_index_or m.atoms atom []; module_name = name_of m.heads; place = place_from 0 m.functions }
+
+-- a checked module as trees
+abbrev pub module_of : (Span → ℕ) → syntax_module.Module → Module
+module_of number_at m = record {
+    atoms = m.atoms; name = name_of m.heads; functions = map (function_of (reading number_at m) m.exports) m.functions }
