@@ -1,6 +1,6 @@
 -- The trees of a checked module's expressions, patterns, guards, clauses and functions: each layer is read with what its parts
 -- came to.
-use Rattle.std.specs.Prelude.{ℕ, ℤ, pos, Bool, true, false, ◌&&◌, ◌||◌, not, List, [], ◌∷◌, map, Option, Some, None, nat_eq, int_lt, cond, ◌+◌, slice_index_or}
+use Rattle.std.specs.Prelude.{ℕ, ℤ, pos, Bool, false, ◌&&◌, ◌||◌, not, List, [], ◌∷◌, map, Some, None, nat_eq, int_lt, cond, ◌+◌, slice_index_or}
 use Rattle.std.specs.List.{flat_map}
 use Rattle.erl_syntax.specs.declared.span.Span.{Span}
 use Rattle.erl_syntax.specs.declared.expr.Expr.{Expr}
@@ -16,7 +16,7 @@ use Rattle.erl_syntax.specs.declared.module.Head as syntax_head
 use Rattle.erl_syntax.specs.declared.module.Module as syntax_module
 use Rattle.term_value.specs.Value.{VInt, VAtom, none}
 use Rattle.term_value.specs.Atoms.{a_ok}
-use Rattle.term_value.specs.Tree.{MakeTuple, Table, Items, Bits, Target, Anything, Variable, Tree, Val, Var, All, First, Choose, Receive, Gather, Alts, Guard, InList, InBits, bottom, Clauses, no_clause, clause, Function, Module, Pattern, PWild, PVar, PVal, PTuple, PBits, PSame, no_pattern, pattern_and}
+use Rattle.term_value.specs.Tree.{MakeTuple, Table, Items, Bits, Anything, Variable, Tree, Val, Var, All, First, Choose, Receive, Gather, Alts, Guard, InList, InBits, bottom, Clauses, no_clause, clause, Function, Module, Pattern, PWild, PVar, PVal, PTuple, PBits, PSame, no_pattern, pattern_and}
 use Rattle.term_value.specs.Read.{Reading, Read, expression, literal, trees, only, integers, Piece, pieces, trees, body, built_from, segments, listed, prefixed, operation, Line, patterns, guard_of, Branch, clauses, Qualifier, Generates, Filters, qualified, pattern_list, call}
 
 abbrev pub variable : ℕ → Read
@@ -119,9 +119,16 @@ name_of (h ∷ heads) = h.name
 -- what the reading of a module looks up, where the variables have these numbers at their places
 abbrev pub reading : (Span → ℕ) → syntax_module.Module → Reading
 reading number_at m = record {
-    number_at = number_at; names = λ atom. slice_index_or m.atoms atom []; module_name = name_of m.heads; place = place_from 0 m.functions }
+  number_at = number_at;
+  names = λ atom. slice_index_or m.atoms atom [];
+  module_name = name_of m.heads;
+  place = place_from 0 m.functions;
+}
 
 -- a checked module as trees
 abbrev pub module_of : (Span → ℕ) → syntax_module.Module → Module
 module_of number_at m = record {
-    atoms = m.atoms; name = name_of m.heads; functions = map (function_of (reading number_at m) m.exports) m.functions }
+  atoms = m.atoms;
+  name = name_of m.heads;
+  functions = map (function_of (reading number_at m) m.exports) m.functions;
+}

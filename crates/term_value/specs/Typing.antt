@@ -38,8 +38,12 @@ size_of false kind = z.Whole
 -- by the segment's words
 abbrev pub typed_as : Bool → List Spec → Kind → Typed
 typed_as sized words kind = type_read (record {
-    kind = kind; sign = sign_of kind (word g.Sign words); endian = endian_of kind (word g.Endian words);
-    size = size_of sized kind; unit = unit_of kind (word g.Unit words) })
+  kind = kind;
+  sign = sign_of kind (word g.Sign words);
+  endian = endian_of kind (word g.Endian words);
+  size = size_of sized kind;
+  unit = unit_of kind (word g.Unit words);
+})
 
 abbrev pub typed_of : Bool → List Spec → Typed
 typed_of sized words = typed_as sized words (type_of (word g.Type words))
