@@ -9,3 +9,4 @@ pub mod Shrinks
 pub mod Finishes
 pub mod Within
 pub mod Compared
+pub mod ReadsBack

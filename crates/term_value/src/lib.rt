@@ -16,7 +16,7 @@ pub use arithmetic::arith;
 pub use comparison::compare;
 pub use computed::Arith;
 pub use entry::Entry;
-pub use laws::{complete_is_last, each_asks};
+pub use laws::{complete_is_last, each_asks, integer_reads_back};
 pub use look::Look;
 pub use measure::{depth, weight};
 pub use term::{Items, Term};
