@@ -7,3 +7,6 @@ pub mod Completion
 pub mod Smaller
 pub mod Shrinks
 pub mod Finishes
+pub mod Within
+pub mod Compared
+pub mod ReadsBack

@@ -1,8 +1,9 @@
 -- Rows that compute once the bits of a number are unfolded.
 use Rattle.std.proofs.Common.{refl}
+use Rattle.std.specs.Fmt.{digits}
 use Rattle.bits_value.specs.Bits.{bit_of}
 use Rattle.bits_value.specs.Number.{big_bits, little_bits, reordered}
-use Rattle.term_value.specs.WorkedRuns.{BadGenerator, BadFilter, GeneratorsNest, RowNoBitstring, AndAlsoRaises, OrElseGives, BadMatch, NoCase, NoIf, ImproperList, GuardHides, GuardLimits, GuardFails, ActCosts, NoReceiver, GeneratorSkips, RowsCost, LastRowIsFree, GeneratorDrops}
+use Rattle.term_value.specs.WorkedRuns.{StoppedReport, OutReport, DisplayReport, DisplayOrder, BadGenerator, BadFilter, GeneratorsNest, RowNoBitstring, AndAlsoRaises, OrElseGives, BadMatch, NoCase, NoIf, ImproperList, GuardHides, GuardLimits, GuardFails, ActCosts, NoReceiver, GeneratorSkips, RowsCost, LastRowIsFree, GeneratorDrops}
 use Rattle.term_value.specs.Worked.{KeepsLowestBits, LittleBuilds, LittleMatches, PrefixMatches, PrefixTooLong, NegativeSizeFails, NegativeSizeRaises, TooLongBuild, WrongKindFirst, ShortPart, WideSkips, WideLimits, WideSigned, PairBuilds, PairMatches, OverlongFails, EuroMatches, RepeatCompares, LiteralLimit}
 
 pub keeps_lowest_bits : KeepsLowestBits
@@ -141,3 +142,19 @@ act_costs = refl
 
 pub no_receiver : NoReceiver
 no_receiver = refl
+
+pub stopped_report : StoppedReport
+unfolding digits
+stopped_report = refl
+
+pub out_report : OutReport
+unfolding digits
+out_report = refl
+
+pub display_report : DisplayReport
+unfolding digits
+display_report = refl
+
+pub display_order : DisplayOrder
+unfolding digits
+display_order = refl

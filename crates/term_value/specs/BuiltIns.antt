@@ -5,13 +5,14 @@ use Rattle.std.specs.Prelude.{ℕ, pos, negsuc, zero, suc, ◌+◌, ◌-◌, ◌
 use Rattle.std.specs.Fmt.{signed_decimal}
 use Rattle.std.specs.Ordering.{is_lt, is_gt}
 use Rattle.bits_value.specs.Number.{natural, big_bits}
+use Rattle.erl_syntax.specs.declared.built_in.BuiltIn.{BuiltIn}
+use Rattle.erl_syntax.specs.declared.built_in.BuiltIn.TheVariants.{IsInteger, IsNumber, IsAtom, IsBoolean, IsPid, IsTuple, IsList, IsBinary, IsBitstring, BitSize, ByteSize, TupleSize, Element, Length, Hd, Tl, Abs, Max, Min, SelfPid, BinaryPart, BinaryPartOf, Exit, Error, SplitBinary, BinaryToList, ListToBinary, IntegerToBinary, BinaryToInteger, TupleToList, ListToTuple, Reverse}
 use Rattle.term_value.specs.Value.{Value, VInt, VAtom, VPid, VTuple, VList, VBits, Values, none, more, count}
 use Rattle.term_value.specs.Order.{order}
 use Rattle.term_value.specs.Atoms.{a_badarg, a_function_clause}
 use Rattle.term_value.specs.Result.{Raise, Result, Gives, Stops, raise, truth, truth_of}
 use Rattle.term_value.specs.Setting.{Setting}
 use Rattle.term_value.specs.Characters.{bits_of_bytes}
-use Rattle.term_value.specs.BuiltIn.{BuiltIn, IsInteger, IsNumber, IsAtom, IsBoolean, IsPid, IsTuple, IsList, IsBinary, IsBitstring, BitSize, ByteSize, TupleSize, Element, Length, Hd, Tl, Abs, Max, Min, Self, BinaryPart, BinaryPartOf, Exit, Error, SplitBinary, BinaryToList, ListToBinary, IntegerToBinary, BinaryToInteger, TupleToList, ListToTuple, Reverse}
 
 abbrev pub badarg : Result
 badarg = Stops (raise a_badarg)
@@ -256,7 +257,7 @@ native_2 s _ v w = badarg
 
 -- A built-in's value for its arguments. A checked module calls each with its number of arguments.
 abbrev pub native : Setting → BuiltIn → Values → Result
-native s Self none = Gives (VPid s.pid)
+native s SelfPid none = Gives (VPid s.pid)
 native s b none = badarg
 native s b (more v none) = native_1 b v
 native s b (more v (more w none)) = native_2 s b v w

@@ -1,6 +1,15 @@
--- Laws of local states and of orders.
-use Rattle.std.specs.Prelude.{List}
-use Rattle.term_value.specs.Tree.{Module}
+-- Laws of encoding and decoding, of local states and of orders.
+use Rattle.std.specs.Prelude.{◌≡◌, ℕ, ℤ, pos, ◌≤◌, Bool, List, [], ◌∷◌, ◌++◌, Some}
+use Rattle.bits_value.specs.Number.{spell, InBits, bounded}
+use Rattle.bits_value.specs.declared.Sign.{Sign}
+use Rattle.bits_value.specs.declared.Endian.{Endian}
+use Rattle.term_value.specs.Value.{VInt}
+use Rattle.term_value.specs.Bounds.{bit_bound}
+use Rattle.term_value.specs.Setting.{Setting}
+use Rattle.term_value.specs.Segment.{Typed, Integer, Written}
+use Rattle.term_value.specs.Encode.{Bits, encoded}
+use Rattle.term_value.specs.Decode.{Cut, taken}
+use Rattle.term_value.specs.Tree.{Variable, Val, and, end, Module}
 use Rattle.term_value.specs.Local.{Local, Outcome, Wants, WantsMore, EndsDone, EndsRaised, Unfinished, ask_of}
 use Rattle.term_value.specs.Machine.{Machine, Legal, IsComplete, after}
 use Rattle.term_value.specs.declared.entry.Entry.{Entry}
@@ -19,3 +28,15 @@ EachAsks = (code : Module) (l : Local) → Finished (ask_of code l)
 -- no entry is legal after a complete order
 abbrev pub CompleteIsLast : Type 0
 CompleteIsLast = (m : Machine) (entries : List Entry) (entry : Entry) → IsComplete m entries → Legal (after m entries) entry → ⊥
+
+-- an integer segment with a size in bits
+abbrev pub integer_segment : Sign → Endian → Typed
+integer_segment sign endian = record { kind = Integer sign endian; size = Written 1 }
+
+-- An integer within its bits and within the bound is encoded as its spelling, and read back from it into a variable, whatever
+-- bits follow.
+abbrev pub IntegerReadsBack : Type 0
+IntegerReadsBack = (s : Setting) (sign : Sign) (endian : Endian) (n : ℕ) (v : ℤ) (x : ℕ) (rest : List Bool)
+    → n ≤ bit_bound → InBits sign n v → bounded v ≡ Some v
+    → (encoded (integer_segment sign endian) (VInt v) (Some (VInt (pos n))) ≡ Bits (spell n v endian))
+    × (taken s (integer_segment sign endian) (Variable x) (and (Val (VInt (pos n))) end) [] (spell n v endian ++ rest) ≡ Cut (record { variable = x; value = VInt v } ∷ []) rest)

@@ -1,7 +1,6 @@
 pub mod Arithmetic
 pub mod Atoms
 pub mod Bounds
-pub mod BuiltIn
 pub mod BuiltIns
 pub mod Calls
 pub mod Characters
@@ -18,6 +17,7 @@ pub mod Order
 pub mod Primitives
 pub mod PutIn
 pub mod Read
+pub mod ReadTrees
 pub mod Reports
 pub mod Result
 pub mod Rows
@@ -27,6 +27,7 @@ pub mod Step
 pub mod Terms
 pub mod Tree
 pub mod Typing
+pub mod Texts
 pub mod Value
 pub mod Worked
 pub mod WorkedRuns

@@ -1,19 +1,18 @@
 -- How the expressions, patterns and guards of a checked module are read into trees (Erlang Reference Manual, "Expressions",
 -- "Patterns", "Bit Syntax Expressions", "Comprehensions"). Each layer is read with what its parts came to in their places.
-use Rattle.std.specs.Prelude.{ℕ, ℤ, pos, neg_ℤ, Bool, true, false, List, [], ◌∷◌, ◌++◌, map, length, reverse, is_some, Option, Some, None}
-use Rattle.std.specs.List.{flat_map}
+use Rattle.std.specs.Prelude.{ℕ, pos, neg_ℤ, true, false, List, [], ◌∷◌, map, length, reverse, Option, Some, None}
 use Rattle.erl_syntax.specs.declared.span.Span.{Span}
 use Rattle.erl_syntax.specs.declared.segment.Spec.{Spec}
 use Rattle.erl_syntax.specs.declared.expr.Op.{Op}
 use Rattle.erl_syntax.specs.declared.expr.Op.TheVariants as o
 use Rattle.erl_syntax.specs.declared.expr.Prefix.{Prefix}
 use Rattle.erl_syntax.specs.declared.expr.Prefix.TheVariants as p
-use Rattle.term_value.specs.Value.{Value, VInt, VAtom, VPid, VTuple, VList, VBits, Values, none, more, row}
+use Rattle.term_value.specs.Value.{Value, VInt, VAtom, VList, row}
 use Rattle.term_value.specs.Atoms.{a_ok}
 use Rattle.term_value.specs.Segment.{Typed}
 use Rattle.term_value.specs.Typing.{typed_of}
 use Rattle.term_value.specs.Calls.{called}
-use Rattle.term_value.specs.Tree.{Prim, MakeTuple, MakeList, MakeListOn, Build, Operate, Prefixed, Form, Table, Call, Send, Items, Bits, Target, Anything, Variable, Equal, Tree, Val, Var, All, First, Choose, Receive, Gather, Trees, end, and, Shut, Then, Last, Alts, AndAlso, OrElse, Clauses, no_clause, clause, Guard, never, or, Quals, turn, give, from, test, Generator, InList, InBits, bottom, Pattern, PWild, PVar, PVal, PTuple, PList, PListOn, PBits, PSame, Patterns, no_pattern, pattern_and, Segments, no_segment, segment}
+use Rattle.term_value.specs.Tree.{Prim, MakeList, MakeListOn, Build, Operate, Prefixed, Table, Send, Target, Anything, Equal, Tree, Val, All, First, Trees, end, and, Then, Last, AndAlso, OrElse, Clauses, no_clause, clause, Guard, never, or, Quals, give, from, test, Generator, Pattern, PList, PListOn, Patterns, no_pattern, pattern_and, Segments, no_segment, segment}
 
 -- what a reader looks up
 pub record Reading : Type 0 where

@@ -1,11 +1,11 @@
 -- Expressions with values in them, as a process has them before it (Erlang Reference Manual, "Expressions", "Patterns",
 -- "Bit Syntax Expressions", "Comprehensions").
 use Rattle.std.specs.Prelude.{ℕ, Bool, List}
+use Rattle.erl_syntax.specs.declared.built_in.BuiltIn.{BuiltIn}
 use Rattle.erl_syntax.specs.declared.expr.Op.{Op}
 use Rattle.erl_syntax.specs.declared.expr.Prefix.{Prefix}
 use Rattle.term_value.specs.Value.{Value, Values}
 use Rattle.term_value.specs.Segment.{Typed}
-use Rattle.term_value.specs.BuiltIn.{BuiltIn}
 
 -- a variable's number in its function, and its value
 pub record Bound : Type 0 where
@@ -22,6 +22,7 @@ pub data Prim : Type 0 where
   Build : (segments : List Typed) → Prim
   Operate : (op : Op) → Prim
   Prefixed : (op : Prefix) → Prim
+  -- a built-in function; `erlang:display/1` and `spawn/3` are visible acts instead
   Native : (built_in : BuiltIn) → Prim
 
 pub data Form : Type 0 where

@@ -1,49 +1,49 @@
--- The type that the words of an accepted segment give (Erlang Reference Manual, "Bit Syntax Expressions": defaults of type,
--- size and unit; that `native` is little is this project's own).
-use Rattle.std.specs.Prelude.{ℕ, ℤ, nat_abs, Bool, true, false, List, [], ◌∷◌, Option, Some, None}
-use Rattle.bits_value.specs.declared.Sign.{Sign}
-use Rattle.bits_value.specs.declared.Sign.TheVariants.{Unsigned, Signed}
-use Rattle.bits_value.specs.declared.Endian.{Endian}
-use Rattle.bits_value.specs.declared.Endian.TheVariants.{Big, Little}
-use Rattle.bits_value.specs.declared.UtfKind.TheVariants.{Utf8, Utf16, Utf32}
+-- The type of a segment of an accepted module, as building and matching read it (Erlang Reference Manual, "Bit Syntax
+-- Expressions").
+use Rattle.std.specs.Prelude.{ℕ, Bool, true, false, List}
+use Rattle.erl_syntax.specs.Typing.{word, type_of, sign_of, endian_of, unit_of}
 use Rattle.erl_syntax.specs.declared.segment.Spec.{Spec}
-use Rattle.erl_syntax.specs.declared.segment.Spec.TheVariants as w
-use Rattle.term_value.specs.Segment.{Typed, Kind, Integer, Part, Character, Size, Written, Default, Whole, Spelled}
+use Rattle.erl_syntax.specs.declared.typing.Kind.{Kind}
+use Rattle.erl_syntax.specs.declared.typing.Kind.TheVariants as k
+use Rattle.erl_syntax.specs.declared.typing.SizeUse.{SizeUse}
+use Rattle.erl_syntax.specs.declared.typing.SizeUse.TheVariants as z
+use Rattle.erl_syntax.specs.declared.typing.SpecKind.TheVariants as g
+use Rattle.erl_syntax.specs.declared.typing.Typed as declared
+use Rattle.term_value.specs.Segment.{Typed, Integer, Part, Character, Size, Written, Default, Whole, Spelled}
+use Rattle.term_value.specs.Segment as own
 
-abbrev pub sign_of : List Spec → Sign
-sign_of [] = Unsigned
-sign_of (w.Signed ∷ words) = Signed
-sign_of (_ ∷ words) = sign_of words
+abbrev pub kind_read : declared.Typed → Kind → own.Kind
+kind_read t k.Int = Integer t.sign t.endian
+kind_read t k.Binary = Part
+kind_read t k.Bitstring = Part
+kind_read t (k.Utf utf) = Character utf t.endian
 
-abbrev pub endian_of : List Spec → Endian
-endian_of [] = Big
-endian_of (w.Little ∷ words) = Little
-endian_of (w.Native ∷ words) = Little
-endian_of (_ ∷ words) = endian_of words
+abbrev pub size_read : ℕ → SizeUse → Size
+size_read unit (z.Default n) = Default n
+size_read unit z.Given = Written unit
+size_read unit z.Whole = Whole unit
+size_read unit z.NoSize = Spelled
 
--- the unit that is written, or the default
-abbrev pub unit_of : ℕ → List Spec → ℕ
-unit_of default [] = default
-unit_of default (w.Unit n ∷ words) = nat_abs n
-unit_of default (_ ∷ words) = unit_of default words
+-- the type that the table of segment types gives
+abbrev pub type_read : declared.Typed → Typed
+type_read t = record { kind = kind_read t t.kind; size = size_read t.unit t.size }
 
-abbrev pub integer_typed : Bool → List Spec → Typed
-integer_typed true words = record { kind = Integer (sign_of words) (endian_of words); size = Written (unit_of 1 words) }
-integer_typed false words = record { kind = Integer (sign_of words) (endian_of words); size = Default 8 }
+-- how long a segment is, where a size is written and where none is
+abbrev pub size_of : Bool → Kind → SizeUse
+size_of sized (k.Utf utf) = z.NoSize
+size_of true kind = z.Given
+size_of false k.Int = z.Default 8
+size_of false kind = z.Whole
 
-abbrev pub part_typed : Bool → ℕ → Typed
-part_typed true unit = record { kind = Part; size = Written unit }
-part_typed false unit = record { kind = Part; size = Whole unit }
-
--- by the first word that names a kind; an integer where none does; `sized` says that a size is written
-abbrev pub typed_by : Bool → List Spec → List Spec → Typed
-typed_by sized words [] = integer_typed sized words
-typed_by sized words (w.Binary ∷ more) = part_typed sized (unit_of 8 words)
-typed_by sized words (w.Bitstring ∷ more) = part_typed sized (unit_of 1 words)
-typed_by sized words (w.Utf8 ∷ more) = record { kind = Character Utf8 Big; size = Spelled }
-typed_by sized words (w.Utf16 ∷ more) = record { kind = Character Utf16 (endian_of words); size = Spelled }
-typed_by sized words (w.Utf32 ∷ more) = record { kind = Character Utf32 (endian_of words); size = Spelled }
-typed_by sized words (_ ∷ more) = typed_by sized words more
+-- by the segment's words
+abbrev pub typed_as : Bool → List Spec → Kind → Typed
+typed_as sized words kind = type_read (record {
+  kind = kind;
+  sign = sign_of kind (word g.Sign words);
+  endian = endian_of kind (word g.Endian words);
+  size = size_of sized kind;
+  unit = unit_of kind (word g.Unit words);
+})
 
 abbrev pub typed_of : Bool → List Spec → Typed
-typed_of sized words = typed_by sized words words
+typed_of sized words = typed_as sized words (type_of (word g.Type words))

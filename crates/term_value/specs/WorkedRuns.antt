@@ -1,13 +1,15 @@
 -- Small programs, and what a process asks for or a machine does.
-use Rattle.std.specs.Prelude.{◌≡◌, ℕ, true, false, List, [], ◌∷◌, ◌++◌, Option, Some, None}
+use Rattle.std.specs.Prelude.{codes, ◌≡◌, ℕ, true, false, List, [], ◌∷◌, ◌++◌, Option, Some, None}
 use Rattle.erl_syntax.specs.declared.expr.Op.TheVariants as o
 use Rattle.term_value.specs.Value.{Value, VAtom, VTuple, VList, VBits, none, more, row}
 use Rattle.term_value.specs.Atoms.{a_badarg, a_badmatch, a_bad_generator, a_bad_filter, a_if_clause, a_case_clause, a_system_limit, a_reductions, a_undef, a_true, a_false, a_ok}
-use Rattle.term_value.specs.BuiltIn.{Self}
+use Rattle.erl_syntax.specs.declared.built_in.BuiltIn.TheVariants.{SelfPid}
 use Rattle.term_value.specs.Step.{Show}
 use Rattle.term_value.specs.Tree.{Build, Operate, Native, MakeTuple, MakeList, MakeListOn, Table, Call, Send, Display, Spawn, Variable, Equal, Tree, Val, Var, All, First, Choose, Receive, Gather, Items, Bits, Trees, end, and, Then, Last, Alts, AndAlso, OrElse, Clauses, no_clause, clause, Guard, never, or, give, from, test, InList, InBits, bottom, Pattern, PWild, PVar, PVal, PTuple, Patterns, no_pattern, pattern_and, Segments, no_segment, segment, Function, Module}
 use Rattle.term_value.specs.Local.{Local, At, Outcome, Wants, EndsDone, EndsRaised, ask_of}
 use Rattle.term_value.specs.Machine.{Normal, Exit as Exited, Waiting, Process, Left, Machine, start_of, IsLegal, IsComplete, after}
+use Rattle.term_value.specs.Orders.{order_text}
+use Rattle.term_value.specs.Reports.{report}
 use Rattle.term_value.specs.Worked.{int, number, atom, binary, byte, no_size, table, a_m, a_main, a_a, a_b, a_c, a_s}
 use Rattle.term_value.specs.declared.entry.Entry.{Entry}
 use Rattle.term_value.specs.declared.entry.Entry.TheVariants as e
@@ -32,7 +34,7 @@ abbrev pub display : Tree → Tree
 display t = All Display (one t)
 
 abbrev pub own : Tree
-own = All (Table (Native Self)) end
+own = All (Table (Native SelfPid)) end
 
 abbrev pub operation : Rattle.erl_syntax.specs.declared.expr.Op.Op → Tree → Tree → Tree
 operation op t u = All (Table (Operate op)) (two t u)
@@ -238,3 +240,24 @@ NotStopped = IsLegal two_senders (e.Started 1 2 ∷ e.Started 1 3 ∷ e.Stopped 
 abbrev pub ChildUndef : Type 0
 ChildUndef = Runs (machine (All Spawn (and (atom a_m) (two (atom a_a) (All (Table MakeList) end)))) [] 1_000)
     (e.Started 1 2 ∷ e.Ended 2 ∷ e.Ended 1 ∷ gone 2 ∷ gone 1 ∷ []) [] (Left Normal ∷ Left (Exited (VAtom a_undef)) ∷ [])
+
+-- the report of the stopped processes, and of the one that ran out of reductions
+abbrev pub StoppedReport : Type 0
+StoppedReport = report (machine (item (All Spawn (and (atom a_m) (two (atom a_s) (All (Table MakeList) end)))) waits) (function a_s 0 (body no_pattern waits) ∷ []) 1_000)
+    (e.Started 1 2 ∷ e.Stopped 2 ∷ gone 2 ∷ e.Stopped 1 ∷ gone 1 ∷ []) ≡ codes "waiting <0.1.0>\nwaiting <0.2.0>\n"
+
+abbrev pub OutReport : Type 0
+OutReport = report (machine (All (Call 0) end) [] 10) (e.Ended 1 ∷ gone 1 ∷ []) ≡ codes "exit <0.1.0> reductions\n"
+
+-- `main() -> erlang:display({1, [ok, 2]}).`: its report and its order
+abbrev pub displaying : Machine
+displaying = machine (display (All (Table MakeTuple) (two (number 1) (All (Table MakeList) (two (atom a_ok) (number 2)))))) [] 1_000
+
+abbrev pub its_order : List Entry
+its_order = e.Shown 1 ∷ e.Ended 1 ∷ gone 1 ∷ []
+
+abbrev pub DisplayReport : Type 0
+DisplayReport = report displaying its_order ≡ codes "{1,[ok,2]}\n"
+
+abbrev pub DisplayOrder : Type 0
+DisplayOrder = order_text its_order ≡ codes "shown 1\nended 1\ngone 1 0 0 0\n"

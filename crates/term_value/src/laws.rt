@@ -1,5 +1,10 @@
-//! Laws of local states and of orders, each the contract of a call.
-ghost use Rattle.term_value.specs.Laws.{CompleteIsLast, EachAsks};
+//! Laws of encoding and decoding, of local states and of orders, each the contract of a call.
+ghost use Rattle.term_value.specs.Laws.{CompleteIsLast, EachAsks, IntegerReadsBack};
+
+/// An integer within its bits and the bound is read back from its encoding, whatever bits follow.
+pub fn integer_reads_back()
+    ensures { IntegerReadsBack }
+{}
 
 /// Each local state of a process has a next ask.
 pub fn each_asks()

@@ -2,6 +2,7 @@
 #![tactic(auto)]
 
 mod arithmetic;
+mod comparison;
 mod computed;
 mod entry;
 mod laws;
@@ -12,9 +13,10 @@ mod runs;
 mod term;
 
 pub use arithmetic::arith;
+pub use comparison::compare;
 pub use computed::Arith;
 pub use entry::Entry;
-pub use laws::{complete_is_last, each_asks};
+pub use laws::{complete_is_last, each_asks, integer_reads_back};
 pub use look::Look;
 pub use measure::{depth, weight};
 pub use term::{Items, Term};

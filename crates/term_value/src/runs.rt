@@ -1,5 +1,5 @@
 //! Small programs, and what a process asks for or a machine does, as the definitions compute it.
-ghost use Rattle.term_value.specs.WorkedRuns.{GeneratorSkips, RowsCost, LastRowIsFree, GeneratorDrops, GeneratorsNest, BadGenerator, BadFilter, RowNoBitstring, AndAlsoRaises, OrElseGives, BadMatch, NoCase, NoIf, ImproperList, GuardHides, GuardLimits, GuardFails, ActCosts, NoReceiver, SelectiveReceive, SecondFirst, FirstFirst, SeenTooEarly, Incomplete, RunsOut, TwoStopped, NotStopped, ChildUndef};
+ghost use Rattle.term_value.specs.WorkedRuns.{StoppedReport, OutReport, DisplayReport, DisplayOrder, GeneratorSkips, RowsCost, LastRowIsFree, GeneratorDrops, GeneratorsNest, BadGenerator, BadFilter, RowNoBitstring, AndAlsoRaises, OrElseGives, BadMatch, NoCase, NoIf, ImproperList, GuardHides, GuardLimits, GuardFails, ActCosts, NoReceiver, SelectiveReceive, SecondFirst, FirstFirst, SeenTooEarly, Incomplete, RunsOut, TwoStopped, NotStopped, ChildUndef};
 
 #[tactic(auto, using(crate::proofs::WorkedRows::generator_skips))]
 fn generator_skips()
@@ -130,4 +130,24 @@ fn not_stopped()
 
 fn child_undef()
     ensures { ChildUndef }
+{}
+
+#[tactic(auto, using(crate::proofs::WorkedRows::stopped_report))]
+fn stopped_report()
+    ensures { StoppedReport }
+{}
+
+#[tactic(auto, using(crate::proofs::WorkedRows::out_report))]
+fn out_report()
+    ensures { OutReport }
+{}
+
+#[tactic(auto, using(crate::proofs::WorkedRows::display_report))]
+fn display_report()
+    ensures { DisplayReport }
+{}
+
+#[tactic(auto, using(crate::proofs::WorkedRows::display_order))]
+fn display_order()
+    ensures { DisplayOrder }
 {}
