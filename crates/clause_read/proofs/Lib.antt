@@ -4,4 +4,6 @@ pub mod Exits
 pub mod Levels
 pub mod Operands
 pub mod Passing
+pub mod PatLists
+pub mod Pats
 pub mod Words
