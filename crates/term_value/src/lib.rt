@@ -8,8 +8,10 @@ mod entry;
 mod laws;
 mod look;
 mod measure;
+mod names;
 mod rows;
 mod runs;
+mod showing;
 mod term;
 
 pub use arithmetic::arith;
@@ -19,4 +21,5 @@ pub use entry::Entry;
 pub use laws::{complete_is_last, each_asks, integer_reads_back};
 pub use look::Look;
 pub use measure::{depth, weight};
+pub use showing::show;
 pub use term::{Items, Term};
