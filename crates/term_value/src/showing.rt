@@ -61,7 +61,10 @@ fn small_number(bits: &Bits<'_>, off: u32, len: u32) -> i128
     requires small { len ≤ 8 }
     ensures { result ≡ pos (natural (take len (drop off bits.now))) }
 {
-    bits.uint(off, len).unwrap_or(0)
+    match bits.uint(off, len) {
+        Some(number) => number,
+        None => 0,
+    }
 }
 
 // Adds the bits past whole bytes, with a comma where bytes stand before.
