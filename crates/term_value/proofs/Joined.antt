@@ -54,7 +54,7 @@ module _ {X : Type 0} (names : ℕ → List ℕ) (f : X → Value) (xs : List X)
       → final ≡ old ++ (opening ∷ (joined (texts names (row (map f xs))) ++ closing ∷ []))
   items_end i opening closing old opened line final h o e m =
       let none : line ++ after i (texts names (row (map f (drop i xs)))) ≡ line =
-          at_drop_all (λ l. line ++ after i (texts names (row (map f l)))) xs i h ∙ ap (λ l. line ++ l) (after-none i) ∙ append-nil line in
+      at_drop_all (λ l. line ++ after i (texts names (row (map f l)))) xs i h ∙ ap (λ l. line ++ l) (after-none i) ∙ append-nil line in
       m ∙ ap (λ l. l ++ closing ∷ []) (sym none ∙ e ∙ ap (λ l. l ++ joined (texts names (row (map f xs)))) o)
       ∙ append_assoc (old ++ opening ∷ []) (joined (texts names (row (map f xs)))) (closing ∷ [])
       ∙ append_assoc old (opening ∷ []) (joined (texts names (row (map f xs))) ++ closing ∷ [])

@@ -13,6 +13,8 @@ mod rows;
 mod runs;
 mod showing;
 mod term;
+#[cfg(test)]
+mod tests;
 
 pub use arithmetic::arith;
 pub use comparison::compare;

@@ -1,4 +1,4 @@
-use Rattle.std.proofs.Common.{◌≡◌, ◌++◌, ◌∷◌, [], map, drop}
+use Rattle.std.proofs.Common.{◌≡◌, ◌++◌, map, drop}
 use Rattle.term_value.specs.Value.{row}
 use Rattle.term_value.specs.Texts.{joined, texts}
 use Rattle.term_value.specs.Joining.{after}
