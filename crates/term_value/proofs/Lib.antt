@@ -11,4 +11,5 @@ pub mod Finishes
 pub mod Within
 pub mod Compared
 pub mod Joined
+pub mod Outcomes
 pub mod ReadsBack

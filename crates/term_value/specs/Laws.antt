@@ -1,4 +1,4 @@
--- Laws of encoding and decoding, of local states and of orders.
+-- Laws of encoding and decoding, of local states, of orders and of reports.
 use Rattle.std.specs.Prelude.{◌≡◌, ℕ, ℤ, pos, ◌≤◌, Bool, List, [], ◌∷◌, ◌++◌, Some}
 use Rattle.bits_value.specs.Number.{spell, InBits, bounded}
 use Rattle.bits_value.specs.declared.Sign.{Sign}
@@ -12,7 +12,10 @@ use Rattle.term_value.specs.Decode.{Cut, taken}
 use Rattle.term_value.specs.Tree.{Variable, Val, and, end, Module}
 use Rattle.term_value.specs.Local.{Local, Outcome, Wants, WantsMore, EndsDone, EndsRaised, Unfinished, ask_of}
 use Rattle.term_value.specs.Machine.{Machine, Legal, IsComplete, after}
+use Rattle.term_value.specs.Outcomes.{IsOutcome, outcome_text}
+use Rattle.term_value.specs.Reports.{report}
 use Rattle.term_value.specs.declared.entry.Entry.{Entry}
+use Rattle.term_value.specs.declared.outcome.Outcome.{Outcome as RunOutcome}
 
 abbrev pub Finished : Outcome → Type 0
 Finished (Wants ask next) = Unit {0}
@@ -40,3 +43,7 @@ IntegerReadsBack = (s : Setting) (sign : Sign) (endian : Endian) (n : ℕ) (v : 
     → n ≤ bit_bound → InBits sign n v → bounded v ≡ Some v
     → (encoded (integer_segment sign endian) (VInt v) (Some (VInt (pos n))) ≡ Bits (spell n v endian))
     × (taken s (integer_segment sign endian) (Variable x) (and (Val (VInt (pos n))) end) [] (spell n v endian ++ rest) ≡ Cut (record { variable = x; value = VInt v } ∷ []) rest)
+
+-- the report of what a machine came to in an order is the machine's report
+abbrev pub OutcomeReports : Type 0
+OutcomeReports = (m : Machine) (entries : List Entry) (o : RunOutcome) → IsOutcome (after m entries) entries o → outcome_text o ≡ report m entries
