@@ -12,4 +12,5 @@ pub mod Within
 pub mod Compared
 pub mod Joined
 pub mod Outcomes
+pub mod Ordered
 pub mod ReadsBack

@@ -1,9 +1,12 @@
--- Laws of encoding and decoding, of local states, of orders and of reports.
-use Rattle.std.specs.Prelude.{◌≡◌, ℕ, ℤ, pos, ◌≤◌, Bool, List, [], ◌∷◌, ◌++◌, Some}
+-- Laws of encoding and decoding, of local states, of orders, of reports and of the order of terms.
+use Rattle.std.specs.Prelude.{◌≡◌, ℕ, ℤ, pos, ◌<◌, ◌≤◌, Bool, List, [], ◌∷◌, ◌++◌, Some}
+use Rattle.std.specs.Cmp.{IsTotalOrder}
+use Rattle.std.specs.declared.cmp.Ordering.TheVariants.{Equal}
 use Rattle.bits_value.specs.Number.{spell, InBits, bounded}
 use Rattle.bits_value.specs.declared.Sign.{Sign}
 use Rattle.bits_value.specs.declared.Endian.{Endian}
-use Rattle.term_value.specs.Value.{VInt}
+use Rattle.term_value.specs.Value.{Value, VInt, VAtom, VPid, VTuple, VList, VBits, Values, none, more}
+use Rattle.term_value.specs.Order.{order}
 use Rattle.term_value.specs.Bounds.{bit_bound}
 use Rattle.term_value.specs.Setting.{Setting}
 use Rattle.term_value.specs.Segment.{Typed, Integer, Written}
@@ -47,3 +50,26 @@ IntegerReadsBack = (s : Setting) (sign : Sign) (endian : Endian) (n : ℕ) (v : 
 -- the report of what a machine came to in an order is the machine's report
 abbrev pub OutcomeReports : Type 0
 OutcomeReports = (m : Machine) (entries : List Entry) (o : RunOutcome) → IsOutcome (after m entries) entries o → outcome_text o ≡ report m entries
+
+-- the order of terms is total: of two one is smaller, or they are equal, and it is transitive
+abbrev pub OrderIsTotal : Type 0
+OrderIsTotal = (names : ℕ → List ℕ) → IsTotalOrder (order names)
+
+-- each atom in a value has a smaller number
+abbrev mutual
+  pub AtomsBelow : ℕ → Value → Type 0
+  AtomsBelow size (VInt n) = Unit {0}
+  AtomsBelow size (VAtom a) = a < size
+  AtomsBelow size (VPid p) = Unit {0}
+  AtomsBelow size (VTuple vs) = AllAtomsBelow size vs
+  AtomsBelow size (VList vs) = AllAtomsBelow size vs
+  AtomsBelow size (VBits bs) = Unit {0}
+
+  pub AllAtomsBelow : ℕ → Values → Type 0
+  AllAtomsBelow size none = Unit {0}
+  AllAtomsBelow size (more v vs) = AtomsBelow size v × AllAtomsBelow size vs
+
+-- over a table of so many atoms, each with a name of its own, equal values are the same
+abbrev pub EqualIsSame : Type 0
+EqualIsSame = (names : ℕ → List ℕ) (size : ℕ) → ((a b : ℕ) → a < size → b < size → names a ≡ names b → a ≡ b)
+    → (v w : Value) → AtomsBelow size v → AtomsBelow size w → order names v w ≡ Equal → v ≡ w

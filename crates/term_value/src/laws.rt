@@ -1,5 +1,5 @@
-//! Laws of encoding and decoding, of local states, of orders and of reports, each the contract of a call.
-ghost use Rattle.term_value.specs.Laws.{CompleteIsLast, EachAsks, IntegerReadsBack, OutcomeReports};
+//! Laws of encoding and decoding, of local states, of orders, of reports and of the order of terms, each the contract of a call.
+ghost use Rattle.term_value.specs.Laws.{CompleteIsLast, EachAsks, EqualIsSame, IntegerReadsBack, OrderIsTotal, OutcomeReports};
 
 /// An integer within its bits and the bound is read back from its encoding, whatever bits follow.
 pub fn integer_reads_back()
@@ -19,4 +19,14 @@ pub fn complete_is_last()
 /// The text of an outcome is the report of the machine that came to it.
 pub fn outcome_reports()
     ensures { OutcomeReports }
+{}
+
+/// The order of terms is total.
+pub fn order_is_total()
+    ensures { OrderIsTotal }
+{}
+
+/// Equal values over a table of atoms, each with a name of its own, are the same.
+pub fn equal_is_same()
+    ensures { EqualIsSame }
 {}

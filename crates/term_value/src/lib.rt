@@ -21,7 +21,9 @@ pub use arithmetic::arith;
 pub use comparison::compare;
 pub use computed::Arith;
 pub use entry::Entry;
-pub use laws::{complete_is_last, each_asks, integer_reads_back, outcome_reports};
+pub use laws::{
+    complete_is_last, each_asks, equal_is_same, integer_reads_back, order_is_total, outcome_reports,
+};
 pub use look::Look;
 pub use measure::{depth, weight};
 pub use outcome::Outcome;
