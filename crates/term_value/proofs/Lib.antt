@@ -12,5 +12,6 @@ pub mod Within
 pub mod Compared
 pub mod Joined
 pub mod Outcomes
+pub mod OrderLines
 pub mod Ordered
 pub mod ReadsBack

@@ -1,5 +1,5 @@
 -- Laws of encoding and decoding, of local states, of orders, of reports and of the order of terms.
-use Rattle.std.specs.Prelude.{◌≡◌, ℕ, ℤ, pos, ◌<◌, ◌≤◌, Bool, List, [], ◌∷◌, ◌++◌, Some}
+use Rattle.std.specs.Prelude.{◌≡◌, ℕ, ℤ, pos, ◌<◌, ◌≤◌, Bool, List, [], ◌∷◌, ◌++◌, codes, Some}
 use Rattle.std.specs.Cmp.{IsTotalOrder}
 use Rattle.std.specs.declared.cmp.Ordering.TheVariants.{Equal}
 use Rattle.bits_value.specs.Number.{spell, InBits, bounded}
@@ -15,6 +15,7 @@ use Rattle.term_value.specs.Decode.{Cut, taken}
 use Rattle.term_value.specs.Tree.{Variable, Val, and, end, Module}
 use Rattle.term_value.specs.Local.{Local, Outcome, Wants, WantsMore, EndsDone, EndsRaised, Unfinished, ask_of}
 use Rattle.term_value.specs.Machine.{Machine, Legal, IsComplete, after}
+use Rattle.term_value.specs.Orders.{Spells, IsInRange, HasNoLineFeed, entry_text}
 use Rattle.term_value.specs.Outcomes.{IsOutcome, outcome_text}
 use Rattle.term_value.specs.Reports.{report}
 use Rattle.term_value.specs.declared.entry.Entry.{Entry}
@@ -73,3 +74,11 @@ abbrev mutual
 abbrev pub EqualIsSame : Type 0
 EqualIsSame = (names : ℕ → List ℕ) (size : ℕ) → ((a b : ℕ) → a < size → b < size → names a ≡ names b → a ≡ b)
     → (v w : Value) → AtomsBelow size v → AtomsBelow size w → order names v w ≡ Equal → v ≡ w
+
+-- a text spells at most one order
+abbrev pub OneOrder : Type 0
+OneOrder = (text : List ℕ) (entries others : List Entry) → Spells text entries → Spells text others → entries ≡ others
+
+-- an entry is one line, which ends with its only line feed
+abbrev pub EntryIsLine : Type 0
+EntryIsLine = (entry : Entry) → IsInRange entry → (chars : List ℕ) × HasNoLineFeed chars × (entry_text entry ≡ chars ++ codes "\n")

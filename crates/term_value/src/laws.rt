@@ -1,5 +1,5 @@
 //! Laws of encoding and decoding, of local states, of orders, of reports and of the order of terms, each the contract of a call.
-ghost use Rattle.term_value.specs.Laws.{CompleteIsLast, EachAsks, EqualIsSame, IntegerReadsBack, OrderIsTotal, OutcomeReports};
+ghost use Rattle.term_value.specs.Laws.{CompleteIsLast, EachAsks, EntryIsLine, EqualIsSame, IntegerReadsBack, OneOrder, OrderIsTotal, OutcomeReports};
 
 /// An integer within its bits and the bound is read back from its encoding, whatever bits follow.
 pub fn integer_reads_back()
@@ -29,4 +29,14 @@ pub fn order_is_total()
 /// Equal values over a table of atoms, each with a name of its own, are the same.
 pub fn equal_is_same()
     ensures { EqualIsSame }
+{}
+
+/// A text spells at most one order.
+pub fn one_order()
+    ensures { OneOrder }
+{}
+
+/// An entry in range is one line.
+pub fn entry_is_line()
+    ensures { EntryIsLine }
 {}

@@ -1,8 +1,8 @@
 ghost use Rattle.std.specs.Prelude.{◌≡◌, ◌≤◌, ◌*◌, ◌<◌, length, slice_index_or, []};
 
 use crate::{
-    Arith, Items, Look, Term, arith, compare, complete_is_last, depth, each_asks,
-    integer_reads_back, show, weight,
+    Arith, Items, Look, Term, arith, compare, complete_is_last, depth, each_asks, entry_is_line,
+    equal_is_same, integer_reads_back, one_order, order_is_total, outcome_reports, show, weight,
 };
 use bits_value::{Bits, Frozen};
 use erl_syntax::{Listed, Op, Text};
@@ -224,4 +224,9 @@ fn laws_are_calls() {
     integer_reads_back();
     each_asks();
     complete_is_last();
+    order_is_total();
+    equal_is_same();
+    one_order();
+    entry_is_line();
+    outcome_reports();
 }
