@@ -2,6 +2,7 @@
 #![tactic(auto)]
 
 pub mod fault;
+pub mod numbering;
 mod operators;
 pub mod placed;
 pub mod sizes;
