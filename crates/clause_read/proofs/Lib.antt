@@ -1,6 +1,7 @@
 pub mod Calls
 pub mod Depths
 pub mod Exits
+pub mod Groups
 pub mod Interning
 pub mod Levels
 pub mod Numbers
@@ -8,4 +9,5 @@ pub mod Operands
 pub mod Passing
 pub mod PatLists
 pub mod Pats
+pub mod Walk
 pub mod Words
