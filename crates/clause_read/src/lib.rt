@@ -4,6 +4,7 @@
 pub mod fault;
 mod operators;
 pub mod placed;
+pub mod segment_types;
 pub mod sizes;
 pub mod source;
 #[cfg(test)]
