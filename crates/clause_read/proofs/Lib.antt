@@ -1,3 +1,5 @@
+pub mod Types
+pub mod SpecWords
 pub mod Calls
 pub mod Depths
 pub mod Exits
