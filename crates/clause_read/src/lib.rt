@@ -2,8 +2,10 @@
 #![tactic(auto)]
 
 pub mod fault;
+pub mod numbering;
 mod operators;
 pub mod placed;
+pub mod segment_types;
 pub mod sizes;
 pub mod source;
 #[cfg(test)]
