@@ -1,9 +1,18 @@
 //! Modules read from their tokens: the tree that they spell, or the first token with which no module can go on.
 #![tactic(auto)]
 
+mod alternatives;
+mod bodies;
+mod exprs;
 pub mod fault;
+mod items;
+mod lists;
+mod operand;
 mod operators;
 pub mod placed;
+mod quals;
+mod segments;
+pub mod setting;
 pub mod sizes;
 pub mod source;
 #[cfg(test)]
