@@ -3,9 +3,11 @@ pub mod BodiedLevels
 pub mod Calls
 pub mod Depths
 pub mod Exits
+pub mod Groups
 pub mod Levels
 pub mod Operands
 pub mod Passing
 pub mod PatLists
 pub mod Pats
+pub mod Walk
 pub mod Words
