@@ -1,3 +1,5 @@
+pub mod BodiedBegins
+pub mod BodiedLevels
 pub mod Calls
 pub mod Depths
 pub mod Exits
