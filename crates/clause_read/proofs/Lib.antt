@@ -1,10 +1,14 @@
 pub mod BodiedBegins
 pub mod BodiedLevels
+pub mod Types
+pub mod SpecWords
 pub mod Calls
 pub mod Depths
 pub mod Exits
 pub mod Groups
+pub mod Interning
 pub mod Levels
+pub mod Numbers
 pub mod Operands
 pub mod Passing
 pub mod PatLists
