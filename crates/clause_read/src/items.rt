@@ -1,10 +1,16 @@
 ghost use Rattle.std.specs.Prelude.{◌≤◌, ◌<◌, ◌+◌, length, IfOk};
-ghost use Rattle.clause_read.specs.Reading.{Gives};
+ghost use Rattle.clause_read.specs.Reading.{Gives, closed};
 ghost use Rattle.clause_read.specs.WantedExprs.{in_body, item_in, item_longer};
+ghost use Rattle.clause_read.specs.WantedItems.{matched_in};
 
+use crate::choosing::item_value;
+use crate::exprs::level;
 use crate::fault::Fault;
-use crate::source::Source;
-use erl_syntax::Item;
+use crate::patterns::pat;
+use crate::placed::{Placed, higher};
+use crate::setting::Setting;
+use crate::source::{Source, mark};
+use erl_syntax::{Item, Listed, Pattern, TokenKind};
 use std::alloc::Global;
 
 /// An item of a body: patterns, each with `=`, and an expression.
@@ -22,5 +28,44 @@ pub fn item(
     ensures further { IfOk result (λ r. at < r.1 × (r.1 ≤ length source.now)) }
     ensures bounded { IfOk result (λ r. (1 ≤ r.0.1) × (deep + r.0.1 ≤ 257)) }
 {
-    Err(Fault::Memory)
+    let mut patterns = Vec::new(alloc);
+    let mut height = 0;
+    let mut next = at;
+    loop {
+        match matched(alloc, source, next, deep, brackets) {
+            Ok((pattern, after)) => {
+                patterns.push(pattern.tree)?;
+                height = higher(height, pattern.height);
+                next = after;
+            }
+            Err(fault) => {
+                let read = level(alloc, source, next, 0, Setting::Body, deep, brackets);
+                let (value, after) = item_value(source, next, fault, read)?;
+                let patterns = Listed::of(patterns);
+                let height = higher(height, value.height);
+                let value = value.tree;
+                return Ok(((Item { patterns, value }, height), after));
+            }
+        }
+    }
+}
+
+/// A pattern of an item, with its `=`.
+fn matched(
+    alloc: Global,
+    source: &Source,
+    at: usize,
+    deep: usize,
+    brackets: usize,
+) -> Result<(Placed<Pattern>, usize), Fault>
+    requires place { at ≤ length source.now }
+    requires tree { deep ≤ 256 }
+    requires bracket { brackets ≤ 64 }
+    ensures reads { Gives closed (matched_in (in_body deep brackets)) source.now at result }
+    ensures further { IfOk result (λ r. at < r.1 × (r.1 ≤ length source.now)) }
+    ensures bounded { IfOk result (λ r. (1 ≤ r.0.height) × (deep + r.0.height ≤ 257)) }
+{
+    let (pattern, after) = pat(alloc, source, at, deep, brackets)?;
+    let (_, next) = mark(source, after, TokenKind::Match)?;
+    Ok((pattern, next))
 }

@@ -3,6 +3,7 @@
 
 mod alternatives;
 mod bodies;
+mod choosing;
 mod exprs;
 pub mod fault;
 mod items;
@@ -10,6 +11,7 @@ mod lists;
 pub mod numbering;
 mod operand;
 mod operators;
+pub mod patterns;
 pub mod placed;
 mod quals;
 pub mod segment_types;
