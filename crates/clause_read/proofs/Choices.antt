@@ -1,13 +1,13 @@
 -- Where one of two wanted things may stand: both are refused, at the place further right.
-use Rattle.std.proofs.Common.{◌≡◌, ℕ, ◌+◌, ◌-◌, ◌≤◌, Bool, IsTrue, List, [], ◌∷◌, ◌++◌, drop, length, length-append, length-drop, refl, sym, ap, subst, ◌∙◌, append_assoc, arith, ◌⊎◌, inl, inr, Result, Ok, Err}
+use Rattle.std.proofs.Common.{◌≡◌, ℕ, ◌+◌, ◌-◌, ◌≤◌, Bool, IsTrue, List, [], ◌∷◌, ◌++◌, drop, length, length-append, length-drop, refl, sym, ap, subst, ◌∙◌, append_assoc, arith, ◌⊎◌, inl, inr}
 use Rattle.erl_syntax.specs.declared.token.TokenKind.{TokenKind}
 use Rattle.erl_syntax.specs.Word.{Word}
 use Rattle.erl_syntax.specs.Grammar.{Goal, Limits, Spells}
 use Rattle.clause_read.specs.declared.fault.Cause.{Cause}
 use Rattle.clause_read.specs.declared.fault.Cause.TheVariants.{Syntax, TooDeep, UnknownAttribute, UnknownSegmentType, Undecided}
-use Rattle.clause_read.specs.Reading.{Passes, IsRefused, GoesOn, Excused, Stops, IsStrict, IsWide, Follows, SameHead, nothing}
+use Rattle.clause_read.specs.Reading.{Passes, IsRefused, GoesOn, Excused, Stops, IsStrict, Follows, SameHead, nothing}
 use Rattle.clause_read.specs.WantedItems.{Joins, IsFarther}
-use Rattle.clause_read.proofs.Passing.{Within, follows_within, same_front, spells_at}
+use Rattle.clause_read.proofs.Passing.{Within, follows_within, spells_at}
 use Rattle.clause_read.proofs.Groups.{Fronts, longer, alike, shorter, fronts}
 
 -- one of two wanted things

@@ -1,19 +1,16 @@
 -- The tokens of a whole pattern stand together: none of their fronts is an expression, and no expression holds them with
 -- a mark of a match or of a generator behind them.
-use Rattle.std.proofs.Common.{◌≡◌, ℕ, ℤ, Bool, true, false, IsTrue, List, [], ◌∷◌, ◌++◌, Option, Some, None, refl, sym, ap, subst, ◌∙◌, append_assoc, append-nil, ◌⊎◌, inl, inr}
+use Rattle.std.proofs.Common.{◌≡◌, ℕ, ℤ, Bool, true, false, List, [], ◌∷◌, ◌++◌, Option, Some, None, refl, sym, ap, subst, ◌∙◌, append_assoc}
 use Rattle.erl_syntax.specs.declared.span.Span.{Span}
 use Rattle.erl_syntax.specs.declared.token.TokenKind.{TokenKind}
 use Rattle.erl_syntax.specs.declared.token.TokenKind.TheVariants as k
 use Rattle.erl_syntax.specs.declared.expr.Expr.{Expr}
-use Rattle.erl_syntax.specs.declared.expr.Prefix.{Prefix}
 use Rattle.erl_syntax.specs.declared.pattern.Pattern.{Pattern}
-use Rattle.erl_syntax.specs.declared.segment.Segment.{Segment}
 use Rattle.erl_syntax.specs.Word.{Word}
-use Rattle.erl_syntax.specs.Operators.{prefix_of}
 use Rattle.erl_syntax.specs.Names.{Signed, plus, minus}
-use Rattle.erl_syntax.specs.Grammar.{Context, Limits, Goal, Mark, At, The, Of, Part, Level, Operand, Common, Pat, APattern, SameTail, PatternBits, level, operand, prefix, atom, macro, tuple, list, case, receive, if_, common, variable, integer, character, string, bits, paren, pattern, not_same, same, pat_variable, pat_wild, pat_integer, pat_signed, pat_character, pat_atom, pat_string, pat_paren, pat_tuple, pat_list, pat_bits, Spells, ends, takes, begins, this, expands}
-use Rattle.clause_read.proofs.Passing.{spells_at, spells_as}
-use Rattle.clause_read.proofs.Walk.{Shape, Plain, Opens, Shuts, Barred, Never, State, Floor, Bare, Inside, shape, goal_shapes, shapes, step, walk, going, walk_both, walks}
+use Rattle.erl_syntax.specs.Grammar.{Context, Limits, Goal, Of, Level, Operand, Pat, level, operand, prefix, atom, macro, tuple, list, case, receive, if_, common, variable, integer, character, string, bits, paren, pat_variable, pat_wild, pat_integer, pat_signed, pat_character, pat_atom, pat_string, pat_paren, pat_tuple, pat_list, pat_bits, Spells, ends, takes, begins, this, expands}
+use Rattle.clause_read.proofs.Passing.{spells_as}
+use Rattle.clause_read.proofs.Walk.{Shape, Plain, Opens, Shuts, Barred, Never, State, Floor, Bare, Inside, shape, shapes, walk, going, walk_both, walks}
 
 -- ---- Fronts of a walk
 

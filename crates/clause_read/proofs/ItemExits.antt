@@ -1,27 +1,27 @@
 -- The exits of the readers of items.
-use Rattle.std.proofs.Common.{◌≡◌, ℕ, ◌+◌, ◌≤◌, max, Bool, true, false, IsTrue, List, [], ◌∷◌, ◌++◌, drop, refl, sym, ap, subst, ◌∙◌, append_assoc, append-nil, arith, ◌<◌, length, IfOk, Result, Ok, Err}
+use Rattle.std.proofs.Common.{◌≡◌, ℕ, ◌+◌, ◌≤◌, max, Bool, false, IsTrue, List, [], ◌∷◌, ◌++◌, drop, refl, sym, ap, subst, ◌∙◌, append_assoc, append-nil, arith, ◌<◌, length, IfOk, Result, Ok, Err}
 use Rattle.erl_syntax.specs.declared.token.TokenKind.{TokenKind}
 use Rattle.erl_syntax.specs.declared.token.TokenKind.TheVariants as k
 use Rattle.erl_syntax.specs.declared.expr.Expr.{Expr}
 use Rattle.erl_syntax.specs.declared.pattern.Pattern.{Pattern}
 use Rattle.erl_syntax.specs.declared.clause.Item.{Item}
 use Rattle.erl_syntax.specs.Word.{Word}
-use Rattle.erl_syntax.specs.Grammar.{Context, InSize, in_mode, Limits, Goal, Mark, Spells, takes}
+use Rattle.erl_syntax.specs.Grammar.{Context, InSize, in_mode, Goal, Mark, takes}
 use Rattle.clause_read.specs.declared.placed.Placed.{Placed}
 use Rattle.clause_read.specs.declared.fault.Fault.{Fault}
 use Rattle.clause_read.specs.declared.fault.Fault.TheVariants.{Memory, Refused}
 use Rattle.clause_read.specs.declared.fault.Cause.{Cause}
 use Rattle.clause_read.specs.declared.fault.Cause.TheVariants.{Syntax, TooDeep, UnknownAttribute, UnknownSegmentType, Undecided}
-use Rattle.clause_read.specs.Reading.{Passes, IsRefused, GoesOn, Excused, SameHead, closed, nothing, Gives}
+use Rattle.clause_read.specs.Reading.{Passes, IsRefused, GoesOn, Excused, closed, nothing, Gives}
 use Rattle.clause_read.specs.Wanted.{extends, level_in, mark_in, NoMark, no_mark_end, no_mark, IsAt}
 use Rattle.clause_read.specs.WantedExprs.{item_longer, item_in}
 use Rattle.clause_read.specs.WantedPatterns.{goes_same, pat_in}
 use Rattle.clause_read.specs.WantedItems.{matched_in, NoneOf, none_at_end, none_at, Joined, GivesValue}
-use Rattle.clause_read.proofs.Passing.{Within, Behind, Spelled, same_kinds, closed_within, behind_closed, and_then, first_of_two, refused_first, fault_after, fault_first, remade, spells_as}
+use Rattle.clause_read.proofs.Passing.{Behind, Spelled, same_kinds, behind_closed, and_then, first_of_two, fault_after, fault_first, remade, spells_as}
 use Rattle.clause_read.proofs.Levels.{same_pair}
 use Rattle.clause_read.proofs.Operands.{mark_word}
 use Rattle.clause_read.proofs.Choices.{refused_wider, refused_behind}
-use Rattle.clause_read.proofs.ItemLaws.{with_pattern, value_item, item_within, value_passes, matched_passes, item_refused}
+use Rattle.clause_read.proofs.ItemLaws.{item_within, value_passes, matched_passes, item_refused}
 
 -- ---- A wanted thing and a mark behind it
 

@@ -1,5 +1,5 @@
 -- The laws of items: a pattern with `=` and an item behind it, or an expression.
-use Rattle.std.proofs.Common.{◌≡◌, ℕ, ◌≤◌, max, Bool, true, false, true≢false, IsTrue, List, [], ◌∷◌, ◌++◌, drop, refl, sym, ap, subst, ◌∙◌, append_assoc, append-nil, ◌⊎◌, inl, inr, arith}
+use Rattle.std.proofs.Common.{◌≡◌, ℕ, max, Bool, IsTrue, List, [], ◌∷◌, ◌++◌, drop, refl, sym, ap, subst, ◌∙◌, append_assoc, append-nil, ◌⊎◌, inl, inr, arith}
 use Rattle.erl_syntax.specs.declared.span.Span.{Span}
 use Rattle.erl_syntax.specs.declared.token.TokenKind.{TokenKind}
 use Rattle.erl_syntax.specs.declared.token.TokenKind.TheVariants as k
@@ -7,20 +7,19 @@ use Rattle.erl_syntax.specs.declared.expr.Expr.{Expr}
 use Rattle.erl_syntax.specs.declared.pattern.Pattern.{Pattern}
 use Rattle.erl_syntax.specs.declared.clause.Item.{Item}
 use Rattle.erl_syntax.specs.Word.{Word}
-use Rattle.erl_syntax.specs.Operators.{operator_of}
-use Rattle.erl_syntax.specs.Grammar.{Context, InSize, in_mode, Limits, strict, Goal, Mark, Of, Level, Pat, AnItem, item_match, item_value, Spells, ends, takes, expands}
+use Rattle.erl_syntax.specs.Grammar.{Context, Limits, strict, Goal, Mark, Of, Level, Pat, AnItem, item_match, item_value, Spells, ends, takes, expands}
 use Rattle.clause_read.specs.declared.placed.Placed.{Placed}
 use Rattle.clause_read.specs.declared.fault.Cause.{Cause}
 use Rattle.clause_read.specs.Reading.{Passes, IsRefused, IsWide, Follows, SameHead, closed, nothing}
-use Rattle.clause_read.specs.Wanted.{calls, lengthens, extends, level_in, mark_in, NoMark, no_mark_end, no_mark}
+use Rattle.clause_read.specs.Wanted.{extends, level_in}
 use Rattle.clause_read.specs.WantedExprs.{item_longer, item_in}
 use Rattle.clause_read.specs.WantedPatterns.{goes_same}
 use Rattle.clause_read.specs.WantedItems.{matched_in, bars, NoneOf, none_at_end, none_at, IsFarther}
-use Rattle.clause_read.proofs.Passing.{Within, same_kinds, closed_within, follows_within, Spelled, behind_closed, refused_after, refused_first, spells_at, spells_as}
+use Rattle.clause_read.proofs.Passing.{Within, same_kinds, follows_within, Spelled, behind_closed, refused_after, refused_first, spells_at}
 use Rattle.clause_read.proofs.Levels.{same_pair}
 use Rattle.clause_read.proofs.Operands.{some_word, some_expr, level_completed}
 use Rattle.clause_read.proofs.Walk.{Barred, shape}
-use Rattle.clause_read.proofs.Groups.{Whole, Group, apart, Cut, cut, level_whole, pat_group}
+use Rattle.clause_read.proofs.Groups.{Whole, Group, apart, cut, level_whole, pat_group}
 use Rattle.clause_read.proofs.Choices.{either_of, both_refused}
 
 pub strict_wide : IsWide strict

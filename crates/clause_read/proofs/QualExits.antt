@@ -1,31 +1,28 @@
 -- The exits of the readers of qualifiers.
-use Rattle.std.proofs.Common.{◌≡◌, ℕ, ◌+◌, ◌≤◌, ◌<◌, max, Bool, true, false, IsTrue, List, [], ◌∷◌, ◌++◌, drop, length, refl, sym, ap, subst, ◌∙◌, append_assoc, arith, IfOk, Result, Ok, Err, Option, Some, None}
+use Rattle.std.proofs.Common.{◌≡◌, ℕ, ◌+◌, ◌<◌, max, false, IsTrue, List, [], ◌∷◌, ◌++◌, drop, refl, sym, ap, subst, ◌∙◌, Ok, Err, Option, Some, None}
 use Rattle.erl_syntax.specs.declared.span.Span.{Span}
-use Rattle.erl_syntax.specs.declared.token.TokenKind.{TokenKind}
 use Rattle.erl_syntax.specs.declared.token.TokenKind.TheVariants as k
 use Rattle.erl_syntax.specs.declared.expr.Expr.{Expr}
 use Rattle.erl_syntax.specs.declared.pattern.Pattern.{Pattern}
 use Rattle.erl_syntax.specs.declared.segment.Segment.{Segment}
-use Rattle.erl_syntax.specs.declared.qual.Qual.{Qual}
 use Rattle.erl_syntax.specs.declared.qual.Qual.TheVariants as q
 use Rattle.erl_syntax.specs.Word.{Word}
-use Rattle.erl_syntax.specs.Grammar.{Context, InSize, in_mode, Limits, Goal, Mark, At, Of, PatternBits, Spells, takes, begins}
+use Rattle.erl_syntax.specs.Grammar.{Context, InSize, in_mode, Limits, Goal, Mark, Spells, takes, begins}
 use Rattle.clause_read.specs.declared.placed.Placed.{Placed}
 use Rattle.clause_read.specs.declared.fault.Fault.{Fault}
 use Rattle.clause_read.specs.declared.fault.Fault.TheVariants.{Memory, Refused}
-use Rattle.clause_read.specs.declared.fault.Cause.{Cause}
 use Rattle.clause_read.specs.declared.fault.Cause.TheVariants.{Syntax}
 use Rattle.clause_read.specs.Source.{StandsAt}
 use Rattle.clause_read.specs.declared.source.Numbered.{Numbered}
-use Rattle.clause_read.specs.Reading.{Passes, IsRefused, Follows, SameHead, closed, nothing, Gives}
+use Rattle.clause_read.specs.Reading.{Passes, closed, Gives}
 use Rattle.clause_read.specs.Wanted.{extends, level_in, mark_in, NoMark, IsAt}
 use Rattle.clause_read.specs.WantedExprs.{qual_longer, qual_in}
 use Rattle.clause_read.specs.WantedPatterns.{goes_same, pattern_in, pattern_bits_in}
 use Rattle.clause_read.specs.WantedItems.{generated_in, segments_in, bars, NoneOf, none_at_end, none_at, Joined, Joined3, BitsTried, BarStands, OpensBits}
-use Rattle.clause_read.proofs.Passing.{Within, Behind, same_kinds, closed_within, behind_closed, and_then, fault_after, at_token}
+use Rattle.clause_read.proofs.Passing.{Behind, same_kinds, behind_closed, and_then, fault_after, at_token}
 use Rattle.clause_read.proofs.Choices.{refused_wider, refused_behind}
-use Rattle.clause_read.proofs.ItemExits.{and_mark, marked_err, no_mark_err, marked_ok}
-use Rattle.clause_read.proofs.QualLaws.{opened_in, items_qual, bits_qual, filter_qual, qual_within, bars_qual, filter_passes, generated_passes, opened_passes, plain_refused, ways_refused}
+use Rattle.clause_read.proofs.ItemExits.{marked_err, no_mark_err, marked_ok}
+use Rattle.clause_read.proofs.QualLaws.{opened_in, filter_qual, qual_within, bars_qual, filter_passes, generated_passes, opened_passes, plain_refused, ways_refused}
 
 -- ---- A pattern with its arrow
 

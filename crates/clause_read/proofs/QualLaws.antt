@@ -1,5 +1,5 @@
 -- The laws of qualifiers: a pattern or segments of bits with an arrow and an expression behind it, or an expression.
-use Rattle.std.proofs.Common.{◌≡◌, ℕ, ◌+◌, ◌≤◌, ◌<◌, max, Bool, true, false, IsTrue, List, [], ◌∷◌, ◌++◌, drop, refl, sym, ap, subst, ◌∙◌, append_assoc, append-nil, ◌⊎◌, inl, inr, arith}
+use Rattle.std.proofs.Common.{◌≡◌, ℕ, ◌<◌, max, Bool, true, false, IsTrue, List, [], ◌∷◌, ◌++◌, drop, refl, sym, ap, subst, ◌∙◌, append-nil, ◌⊎◌, inl, inr, arith}
 use Rattle.erl_syntax.specs.declared.span.Span.{Span}
 use Rattle.erl_syntax.specs.declared.token.TokenKind.{TokenKind}
 use Rattle.erl_syntax.specs.declared.token.TokenKind.TheVariants as k
@@ -9,18 +9,18 @@ use Rattle.erl_syntax.specs.declared.segment.Segment.{Segment}
 use Rattle.erl_syntax.specs.declared.qual.Qual.{Qual}
 use Rattle.erl_syntax.specs.declared.qual.Qual.TheVariants as q
 use Rattle.erl_syntax.specs.Word.{Word}
-use Rattle.erl_syntax.specs.Grammar.{Context, InSize, in_mode, Limits, strict, Goal, Mark, At, Of, Level, Pat, APattern, SameTail, PatternBits, AQual, pattern, same, not_same, generator, bits_generator, filter, Spells, ends, takes, begins, expands}
+use Rattle.erl_syntax.specs.Grammar.{Context, Limits, strict, Goal, Mark, At, Of, Pat, APattern, SameTail, PatternBits, AQual, pattern, same, not_same, generator, bits_generator, filter, Spells, ends, begins, expands}
 use Rattle.clause_read.specs.declared.placed.Placed.{Placed}
 use Rattle.clause_read.specs.declared.fault.Cause.{Cause}
-use Rattle.clause_read.specs.Reading.{Passes, IsRefused, IsWide, Follows, SameHead, closed, nothing}
+use Rattle.clause_read.specs.Reading.{Passes, IsRefused, Follows, SameHead, closed, nothing}
 use Rattle.clause_read.specs.Wanted.{extends, level_in, NoMark, no_mark_end, no_mark}
 use Rattle.clause_read.specs.WantedExprs.{qual_longer, qual_in}
 use Rattle.clause_read.specs.WantedItems.{generated_in, segments_in, arrows, bars, NoneOf, IsFarther}
-use Rattle.clause_read.proofs.Passing.{Within, same_kinds, closed_within, follows_within, Spelled, behind_closed, refused_after, refused_first, spells_at, spells_as}
+use Rattle.clause_read.proofs.Passing.{Within, same_kinds, follows_within, Spelled, behind_closed, refused_after, refused_first, spells_at}
 use Rattle.clause_read.proofs.Levels.{same_pair}
 use Rattle.clause_read.proofs.Operands.{some_word, some_expr, level_completed}
-use Rattle.clause_read.proofs.Walk.{Floor, Inside, Opens, shape, walks}
-use Rattle.clause_read.proofs.Groups.{Whole, Group, bracket, group_whole, Cut, cut, level_whole, pat_group}
+use Rattle.clause_read.proofs.Walk.{Floor, Inside, shape, walks}
+use Rattle.clause_read.proofs.Groups.{Whole, Group, bracket, group_whole, cut, level_whole, pat_group}
 use Rattle.clause_read.proofs.Choices.{either_of, both_refused}
 use Rattle.clause_read.proofs.ItemLaws.{BarAt, bar_longer, after_whole, bar_behind_level, marked, no_bar_there, strict_wide}
 

@@ -1,27 +1,24 @@
 -- The laws and exits of lists of qualifiers up to a closing bracket, and of a qualifier that opens a bracket too many.
-use Rattle.std.proofs.Common.{◌≡◌, ◌≢◌, ℕ, ℤ, ◌+◌, ◌≤◌, ◌<◌, max, Bool, true, false, IsTrue, List, [], ◌∷◌, ◌++◌, drop, refl, sym, ap, subst, ◌∙◌, append_assoc, arith, Ok, Err}
+use Rattle.std.proofs.Common.{◌≡◌, ◌≢◌, ℕ, ℤ, ◌+◌, ◌≤◌, max, false, IsTrue, List, [], ◌∷◌, ◌++◌, drop, refl, sym, ap, ◌∙◌, append_assoc, arith, Ok, Err}
 use Rattle.erl_syntax.specs.declared.span.Span.{Span}
 use Rattle.erl_syntax.specs.declared.token.TokenKind.{TokenKind}
 use Rattle.erl_syntax.specs.declared.token.TokenKind.TheVariants as k
 use Rattle.erl_syntax.specs.declared.expr.Expr.{Expr}
 use Rattle.erl_syntax.specs.declared.pattern.Pattern.{Pattern}
-use Rattle.erl_syntax.specs.declared.segment.Segment.{Segment}
 use Rattle.erl_syntax.specs.declared.qual.Qual.{Qual}
 use Rattle.erl_syntax.specs.declared.qual.Qual.TheVariants as q
 use Rattle.erl_syntax.specs.Word.{Word}
 use Rattle.erl_syntax.specs.Operators.{prefix_of}
 use Rattle.erl_syntax.specs.Names.{Signed, plus, minus}
-use Rattle.erl_syntax.specs.Grammar.{Context, InSize, in_mode, Limits, Goal, Mark, Of, Level, Operand, Common, Pat, APattern, AQual, Quals, MoreQuals, PatternBits, quals, more_quals, end_quals, generator, bits_generator, filter, pattern, level, operand, prefix, atom, macro, tuple, list, case, receive, if_, common, variable, integer, character, string, bits, paren, pat_variable, pat_wild, pat_integer, pat_signed, pat_character, pat_atom, pat_string, pat_paren, pat_tuple, pat_list, pat_bits, no_pattern_bits, Spells, takes, begins, this, expands}
-use Rattle.clause_read.specs.declared.placed.Placed.{Placed}
+use Rattle.erl_syntax.specs.Grammar.{Context, InSize, in_mode, Limits, Goal, Of, Level, Operand, Pat, AQual, Quals, MoreQuals, quals, more_quals, end_quals, generator, bits_generator, filter, pattern, level, operand, prefix, atom, macro, tuple, list, case, receive, if_, common, variable, integer, character, string, bits, paren, pat_variable, pat_wild, pat_integer, pat_signed, pat_character, pat_atom, pat_string, pat_paren, pat_tuple, pat_list, pat_bits, no_pattern_bits, Spells, takes, begins, this, expands}
 use Rattle.clause_read.specs.declared.fault.Fault.{Fault}
-use Rattle.clause_read.specs.declared.fault.Cause.{Cause}
 use Rattle.clause_read.specs.declared.fault.Cause.TheVariants.{Syntax, TooDeep}
-use Rattle.clause_read.specs.Reading.{Passes, IsRefused, IsStrict, Follows, SameHead, closed, nothing, Gives}
+use Rattle.clause_read.specs.Reading.{Passes, IsRefused, IsStrict, SameHead, closed, nothing, Gives}
 use Rattle.clause_read.specs.Wanted.{Closes, NoMark, no_mark_end, no_mark, IsAt}
 use Rattle.clause_read.specs.WantedExprs.{qual_longer, qual_in, quals_in}
 use Rattle.clause_read.proofs.Passing.{Behind, Spelled, same_kinds, and_then, first_of_two, fault_after, fault_first, refused_after, refused_at, at_token, remade}
 use Rattle.clause_read.proofs.Levels.{same_pair, no_prefix}
-use Rattle.clause_read.proofs.Operands.{some_word, some_expr, some_place, level_completed, deeper, deeper_wide, mark_word}
+use Rattle.clause_read.proofs.Operands.{some_word, some_expr, level_completed, deeper, deeper_wide, mark_word}
 
 -- ---- Qualifiers up to a closing bracket
 

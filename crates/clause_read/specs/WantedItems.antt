@@ -1,5 +1,5 @@
 -- What items and qualifiers are chosen from: a pattern with its mark, or an expression.
-use Rattle.std.specs.Prelude.{◌≡◌, ℕ, ◌≤◌, Bool, true, false, List, [], ◌∷◌, ◌++◌, drop, Result, Ok, Err, ◌⊎◌, ◌+◌, ◌<◌, Option, Some, None, IsTrue}
+use Rattle.std.specs.Prelude.{◌≡◌, ℕ, ◌≤◌, Bool, true, false, List, [], ◌∷◌, drop, Result, Ok, Err, ◌⊎◌, ◌+◌, ◌<◌, Option, Some, None, IsTrue}
 use Rattle.erl_syntax.specs.Grammar.{Context, InSize, in_mode, Goal, Mark, Of, Pat, APattern, PatternBits}
 use Rattle.erl_syntax.specs.Word.{Word}
 use Rattle.erl_syntax.specs.declared.span.Span.{Span}

@@ -1,4 +1,4 @@
-use Rattle.std.proofs.Common.{arith, None, Some}
+use Rattle.std.proofs.Common.{arith}
 use Rattle.std.proofs.lemmas.Result.{err_from_is_err_and}
 use Rattle.clause_read.specs.WantedExprs.{in_body}
 use Rattle.clause_read.proofs.QualExits.{items_err, items_ok, bits_err, bits_ok, opens_at}

@@ -1,4 +1,4 @@
-use Rattle.std.proofs.Common.{rules, arith, ◌<◌, ◌≤◌, ◌+◌, ◌∙◌, length}
+use Rattle.std.proofs.Common.{rules, arith, ◌∙◌}
 use Rattle.std.proofs.lemmas.Result.{err_from_is_err_and}
 use Rattle.clause_read.specs.WantedExprs.{in_body}
 use Rattle.clause_read.proofs.QualLists.{ends, quals_begin, quals_err, quals_end, quals_more, quals_other}
