@@ -1,3 +1,5 @@
+pub mod BitsExits
+pub mod BitsLaws
 pub mod Calls
 pub mod Depths
 pub mod Exits
@@ -6,4 +8,6 @@ pub mod Operands
 pub mod Passing
 pub mod PatLists
 pub mod Pats
+pub mod SegmentExits
+pub mod SegmentLaws
 pub mod Words

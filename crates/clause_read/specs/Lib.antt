@@ -2,3 +2,4 @@ pub mod Reading
 pub mod Source
 pub mod Wanted
 pub mod WantedExprs
+pub mod WantedSegments
