@@ -1,6 +1,12 @@
+pub mod BodyExits
+pub mod BodyLaws
 pub mod Calls
+pub mod ClauseExits
+pub mod ClauseLaws
 pub mod Depths
 pub mod Exits
+pub mod GuardExits
+pub mod GuardLaws
 pub mod Levels
 pub mod Operands
 pub mod Passing
