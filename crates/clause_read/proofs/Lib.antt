@@ -1,5 +1,7 @@
 pub mod BodyExits
 pub mod BodyLaws
+pub mod BodiedBegins
+pub mod BodiedLevels
 pub mod Calls
 pub mod ClauseExits
 pub mod ClauseLaws
@@ -7,9 +9,11 @@ pub mod Depths
 pub mod Exits
 pub mod GuardExits
 pub mod GuardLaws
+pub mod Groups
 pub mod Levels
 pub mod Operands
 pub mod Passing
 pub mod PatLists
 pub mod Pats
+pub mod Walk
 pub mod Words

@@ -1,4 +1,5 @@
 pub mod Reading
+pub mod Settings
 pub mod Source
 pub mod Wanted
 pub mod WantedExprs

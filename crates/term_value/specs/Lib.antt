@@ -1,5 +1,4 @@
 pub mod Arithmetic
-pub mod Atoms
 pub mod Bounds
 pub mod BuiltIns
 pub mod Calls
