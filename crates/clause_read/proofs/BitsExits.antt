@@ -71,7 +71,7 @@ value_rest_err c ws at place y f n g = λ start p. fault_after ws start at f (sa
 pub value_rest_then : (c : Context) (ws : List Word) (at next : ℕ) (place : Span) (y : Placed Expr) (sg : Segment) (h : ℕ) (r : Result ((Expr × ℕ) × ℕ) Fault) → NoRow c.mode (drop at ws) → Gives segment_longer (segment_rest_in (inside (under c)) y) ws at (Ok ((sg, h), next)) → BehindSegment c ws next place sg h r → GivesBehind (bits_in c place) (after_value_in c place y) (λ v. v) ws at r
 value_rest_then c ws at next place y sg h r n g m = λ start p. m start (and_then (same_kinds closed) (and_then (same_kinds closed) p (on_bits_segments c place y (drop at ws) n)) (first_of_two (behind_segment (inside (under c))) g))
 
-body_context : (c : Context) → c.mode ≡ InBody → inside (under c) ≡ in_body (c.deep + 1) (c.open_ + 1)
+pub body_context : (c : Context) → c.mode ≡ InBody → inside (under c) ≡ in_body (c.deep + 1) (c.open_ + 1)
 body_context c m = ap (λ v. record { mode = v; deep = c.deep + 1; open_ = c.open_ + 1 }) m
 
 value_row : (c : Context) (ws : List Word) (at : ℕ) (place : Span) (y : Placed Expr) → c.mode ≡ InBody → IsAt ws at k.DoubleBar →
