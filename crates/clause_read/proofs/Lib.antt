@@ -1,3 +1,5 @@
+pub mod BitsExits
+pub mod BitsLaws
 pub mod BodiedBegins
 pub mod BodiedLevels
 pub mod BodyExits
@@ -17,6 +19,8 @@ pub mod Operands
 pub mod Passing
 pub mod PatLists
 pub mod Pats
+pub mod SegmentExits
+pub mod SegmentLaws
 pub mod SpecWords
 pub mod Types
 pub mod Walk

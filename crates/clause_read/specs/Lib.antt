@@ -5,3 +5,4 @@ pub mod Source
 pub mod Wanted
 pub mod WantedExprs
 pub mod WantedPatterns
+pub mod WantedSegments
