@@ -1,7 +1,10 @@
 pub mod BitsExits
 pub mod BitsLaws
 pub mod BodiedBegins
+pub mod BodiedCommon
+pub mod BodiedExits
 pub mod BodiedLevels
+pub mod BodiedOperands
 pub mod BodyExits
 pub mod BodyLaws
 pub mod Calls
