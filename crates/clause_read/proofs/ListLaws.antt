@@ -1,5 +1,5 @@
 -- The laws of lists, behind `[`.
-use Rattle.std.proofs.Common.{◌≡◌, ℕ, ◌+◌, ◌≤◌, ◌<◌, max, false, IsTrue, List, [], ◌∷◌, ◌++◌, append_assoc, refl, sym, ap, subst, ◌∙◌, arith}
+use Rattle.std.proofs.Common.{◌≡◌, ℕ, ◌+◌, ◌≤◌, ◌<◌, max, false, IsTrue, List, [], ◌∷◌, ◌++◌, append_assoc, refl, sym, ap, ◌∙◌, arith}
 use Rattle.erl_syntax.specs.declared.span.Span.{Span}
 use Rattle.erl_syntax.specs.declared.token.TokenKind.{TokenKind}
 use Rattle.erl_syntax.specs.declared.token.TokenKind.TheVariants as k
@@ -11,7 +11,7 @@ use Rattle.erl_syntax.specs.Grammar.{InBody, Context, under, inside, Limits, Goa
 use Rattle.clause_read.specs.declared.placed.Placed.{Placed}
 use Rattle.clause_read.specs.declared.setting.Setting.{Setting}
 use Rattle.clause_read.specs.declared.fault.Cause.TheVariants.{Syntax, TooDeep}
-use Rattle.clause_read.specs.Reading.{Passes, IsRefused, Follows, SameHead, closed, nothing}
+use Rattle.clause_read.specs.Reading.{Passes, IsRefused, SameHead, closed, nothing}
 use Rattle.clause_read.specs.Wanted.{extends, begins_expr, level_in, mark_in, NoMark, no_mark_end, no_mark}
 use Rattle.clause_read.specs.WantedExprs.{list_in, mode_of, quals_in}
 use Rattle.clause_read.specs.WantedSegments.{after_first_in, list_items_in, last_in, NoRow}
