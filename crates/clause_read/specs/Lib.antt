@@ -6,3 +6,4 @@ pub mod Wanted
 pub mod WantedExprs
 pub mod WantedPatterns
 pub mod WantedItems
+pub mod WantedSegments

@@ -1,14 +1,146 @@
-ghost use Rattle.std.specs.Prelude.{◌≤◌, ◌<◌, ◌+◌, length, IfOk};
+ghost use Rattle.std.specs.Prelude.{◌≡◌, ◌≤◌, ◌<◌, ◌+◌, ◌^◌, ◌∷◌, ◌↔◌, [], length, drop, IsTrue, IfErr, IfOk, OnSome, MatchOption};
 ghost use Rattle.clause_read.specs.Reading.{Gives, closed};
-ghost use Rattle.clause_read.specs.Wanted.{Closes, exprs_in, extends, level_in, tail_in};
+ghost use Rattle.clause_read.specs.Settings.{FirstIn, IsBlock, MayStand, NoneIn, OperatorIn, begins_block, begins_guard, begins_in};
+ghost use Rattle.clause_read.specs.Wanted.{Closes, exprs_in, extends, joined, level_in, tail_in};
 ghost use Rattle.clause_read.specs.WantedExprs.{in_setting};
+ghost use Rattle.clause_read.specs.declared.fault.Fault.TheVariants.{Memory};
 
-use crate::fault::Fault;
-use crate::placed::Placed;
+use crate::fault::{Cause, Fault};
+use crate::operators::{level as level_of, operator, right_of};
+use crate::placed::{Placed, higher};
 use crate::setting::Setting;
 use crate::source::Source;
-use erl_syntax::{Expr, Listed, TokenKind};
+use erl_syntax::{Expr, Listed, Op, TokenKind};
 use std::alloc::Global;
+
+/// Whether a block begins so: a `case`, a `receive` or an `if`.
+fn begins_block(kind: TokenKind) -> bool
+    ensures { result ≡ begins_block kind }
+{
+    matches!(kind, TokenKind::Case | TokenKind::Receive | TokenKind::If)
+}
+
+/// Whether a block begins so where blocks may stand.
+pub fn is_block(kind: TokenKind, setting: Setting) -> bool
+    ensures { IsTrue result ↔ IsBlock setting kind }
+{
+    match setting {
+        Setting::Body => begins_block(kind),
+        Setting::Guard => false,
+    }
+}
+
+/// Whether an expression of a guard begins so.
+fn begins_guard(kind: TokenKind) -> bool
+    ensures { result ≡ begins_guard kind }
+{
+    matches!(
+        kind,
+        TokenKind::Plus
+            | TokenKind::Minus
+            | TokenKind::Bnot
+            | TokenKind::Not
+            | TokenKind::Atom
+            | TokenKind::Question
+            | TokenKind::LeftBrace
+            | TokenKind::LeftBracket
+            | TokenKind::Variable
+            | TokenKind::Integer
+            | TokenKind::Character
+            | TokenKind::Str
+            | TokenKind::LeftBits
+            | TokenKind::LeftParen
+    )
+}
+
+/// Whether an expression begins so.
+fn begins(kind: TokenKind, setting: Setting) -> bool
+    ensures { result ≡ begins_in setting kind }
+{
+    match setting {
+        Setting::Body => begins_block(kind) || begins_guard(kind),
+        Setting::Guard => begins_guard(kind),
+    }
+}
+
+/// Why no expression stands where it would be too deep.
+pub fn cause_of_first(source: &Source, at: usize, setting: Setting) -> Cause
+    requires { at ≤ length source.now }
+    ensures { FirstIn setting (drop at source.now) result }
+{
+    let Some(numbered) = source.token(at) else {
+        return Cause::Syntax;
+    };
+    if begins(numbered.token.kind, setting) {
+        Cause::TooDeep
+    } else {
+        Cause::Syntax
+    }
+}
+
+/// Whether an operator may stand there: in a guard any but `!`.
+fn may_stand(op: Op, setting: Setting) -> bool
+    ensures { IsTrue result ↔ MayStand setting op }
+{
+    match setting {
+        Setting::Body => true,
+        Setting::Guard => op != Op::Send,
+    }
+}
+
+/// The operator of that level at that place, where one may stand.
+fn operator_at(source: &Source, at: usize, wanted: usize, setting: Setting) -> Option<Op>
+    requires { at ≤ length source.now }
+    ensures operator { MatchOption result (NoneIn setting wanted (drop at source.now)) (λ op. OperatorIn setting source.now at wanted op) }
+    ensures within { OnSome result (at < length source.now) }
+    ensures short { length source.now < 2 ^ 64 }
+{
+    let Some(numbered) = source.token(at) else {
+        return None;
+    };
+    let Some(op) = operator(numbered.token.kind) else {
+        return None;
+    };
+    if level_of(op) == wanted && may_stand(op, setting) {
+        Some(op)
+    } else {
+        None
+    }
+}
+
+/// An operator between two parts.
+fn binary(
+    alloc: Global,
+    op: Op,
+    left: Placed<Expr>,
+    right: Placed<Expr>,
+) -> Result<Placed<Expr>, Fault>
+    requires left { left.height ≤ 256 }
+    requires right { right.height ≤ 256 }
+    ensures joined { IfOk result (λ r. r ≡ joined left op right) }
+    ensures memory { IfErr result (λ e. e ≡ Memory) }
+{
+    let height = higher(left.height, right.height) + 1;
+    let parts = vec![in alloc; left.tree, right.tree]?;
+    let tree = Expr::Binary {
+        at: left.at,
+        op,
+        parts: Listed::of(parts),
+    };
+    Ok(Placed {
+        at: left.at,
+        tree,
+        height,
+    })
+}
+
+/// A list of one expression.
+pub fn one(alloc: Global, part: Expr) -> Result<Listed<Expr>, Fault>
+    ensures list { IfOk result (λ r. r ≡ part ∷ []) }
+    ensures memory { IfErr result (λ e. e ≡ Memory) }
+{
+    Ok(Listed::of(vec![in alloc; part]?))
+}
 
 /// An expression of a level: 0 to 5 are the binary operators from the one that binds least, 6 an operand.
 pub fn level(
