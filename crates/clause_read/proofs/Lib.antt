@@ -1,5 +1,8 @@
 pub mod BodiedBegins
+pub mod BodiedCommon
+pub mod BodiedExits
 pub mod BodiedLevels
+pub mod BodiedOperands
 pub mod Calls
 pub mod Depths
 pub mod Exits

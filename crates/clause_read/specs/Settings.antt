@@ -21,6 +21,10 @@ begins_block k.Receive = true
 begins_block k.If = true
 begins_block _ = false
 
+-- a block begins so, in a body
+abbrev pub IsBlock : Setting → TokenKind → Type 0
+IsBlock s kind = (s ≡ AsBody) × IsTrue (begins_block kind)
+
 -- an expression of a guard begins so
 abbrev pub begins_guard : TokenKind → Bool
 begins_guard k.Plus = true
