@@ -23,7 +23,7 @@ use Rattle.clause_read.specs.declared.fault.Cause.TheVariants.{Syntax, TooDeep}
 use Rattle.clause_read.specs.declared.source.Numbered.{Numbered}
 use Rattle.clause_read.specs.Source.{StandsAt}
 use Rattle.clause_read.specs.Reading.{IsRefused, SameHead, closed}
-use Rattle.clause_read.specs.Wanted.{exprs_in, operand_in, NoMark, no_mark_end, no_mark}
+use Rattle.clause_read.specs.Wanted.{exprs_in, NoMark, no_mark_end, no_mark}
 use Rattle.clause_read.specs.WantedExprs.{mode_of, common_in}
 use Rattle.clause_read.specs.Settings.{begins_block, begins_guard, begins_in, NoneBegins, none_at_end, none_at, FirstIn, only_deeper_in, none_first}
 use Rattle.clause_read.proofs.Passing.{spells_at}

@@ -1,18 +1,18 @@
 -- The laws of what may stand as an operand and as a segment's value, in bodies and guards.
-use Rattle.std.proofs.Common.{◌≡◌, ℕ, ◌+◌, ◌≤◌, ◌<◌, true, false, IsTrue, List, [], ◌∷◌, ◌++◌, Some, refl, sym, ap, subst, ◌∙◌, arith, pos, ◌⊎◌, inl, inr}
+use Rattle.std.proofs.Common.{◌≡◌, ℕ, ◌+◌, ◌≤◌, ◌<◌, List, [], ◌∷◌, ◌++◌, refl, sym, ap, subst, ◌∙◌, arith, pos, ◌⊎◌, inl, inr}
 use Rattle.erl_syntax.specs.declared.span.Span.{Span}
 use Rattle.erl_syntax.specs.declared.token.TokenKind.{TokenKind}
 use Rattle.erl_syntax.specs.declared.token.TokenKind.TheVariants as k
 use Rattle.erl_syntax.specs.declared.expr.Expr.{Expr}
 use Rattle.erl_syntax.specs.declared.expr.Expr.TheVariants as x
 use Rattle.erl_syntax.specs.Word.{Word}
-use Rattle.erl_syntax.specs.Grammar.{InSize, Context, inside, Limits, Goal, Mark, Of, Level, Common, BitsRest, variable, integer, character, string, bits, paren, Spells, takes, begins, this, expands}
+use Rattle.erl_syntax.specs.Grammar.{InSize, Context, inside, Limits, Goal, Mark, Of, Level, Common, BitsRest, variable, integer, character, string, bits, paren, Spells, begins, this, expands}
 use Rattle.clause_read.specs.declared.placed.Placed.{Placed}
 use Rattle.clause_read.specs.declared.fault.Cause.TheVariants.{Syntax, TooDeep}
 use Rattle.clause_read.specs.Reading.{Passes, IsRefused, SameHead, closed, nothing}
 use Rattle.clause_read.specs.WantedExprs.{common_in, bits_in}
 use Rattle.clause_read.proofs.Levels.{same_placed}
-use Rattle.clause_read.proofs.Operands.{some_place, some_word, some_expr, in_paren, deeper, deeper_wide}
+use Rattle.clause_read.proofs.Operands.{some_word, some_expr, in_paren, deeper, deeper_wide}
 use Rattle.clause_read.proofs.BodiedBegins.{BegunCommon, begun_bits, begun_paren}
 
 common_spells : (l : Limits) (c : Context) (gs : List Goal) (w : List Word) → Spells l gs w → Spells l (common_in c some_expr ++ gs) (some_word ∷ w)

@@ -1,5 +1,5 @@
 -- What the readers of operands in bodies and guards say at each exit.
-use Rattle.std.proofs.Common.{◌≡◌, ℕ, ℤ, ◌+◌, ◌≤◌, ◌<◌, max, IsTrue, List, [], ◌∷◌, ◌++◌, drop, Option, Some, None, Result, Ok, Err, refl, sym, ap, subst, ◌∙◌, arith, pos, ◌⊎◌, inl, inr}
+use Rattle.std.proofs.Common.{◌≡◌, ℕ, ℤ, ◌+◌, ◌≤◌, ◌<◌, max, IsTrue, List, [], ◌∷◌, ◌++◌, drop, Option, Some, None, Result, Ok, Err, IfOk, refl, sym, ap, subst, ◌∙◌, arith, pos, ◌⊎◌}
 use Rattle.erl_syntax.specs.declared.span.Span.{Span}
 use Rattle.erl_syntax.specs.declared.token.TokenKind.{TokenKind}
 use Rattle.erl_syntax.specs.declared.token.TokenKind.TheVariants as k
@@ -10,7 +10,7 @@ use Rattle.erl_syntax.specs.declared.clause.Alt.{Alt}
 use Rattle.erl_syntax.specs.declared.clause.Branch.{Branch}
 use Rattle.erl_syntax.specs.Word.{Word}
 use Rattle.erl_syntax.specs.Operators.{prefix_of}
-use Rattle.erl_syntax.specs.Grammar.{Mode, Context, InBody, InSize, under, inside, Goal, Mark, Of, Alts}
+use Rattle.erl_syntax.specs.Grammar.{Context, InBody, InSize, under, inside}
 use Rattle.clause_read.specs.Source.{StandsAt, number_of}
 use Rattle.clause_read.specs.declared.source.Numbered.{Numbered}
 use Rattle.clause_read.specs.declared.placed.Placed.{Placed}
@@ -21,14 +21,14 @@ use Rattle.clause_read.specs.declared.fault.Fault.{Fault}
 use Rattle.clause_read.specs.Reading.{Passes, IsRefused, Gives, closed}
 use Rattle.clause_read.specs.Wanted.{calls, extends, level_in, operand_in, exprs_in, mark_in}
 use Rattle.clause_read.specs.WantedExprs.{mode_of, in_setting, in_body, common_in, list_in, bits_in, alts_in, branches_in}
-use Rattle.clause_read.specs.Settings.{begins_block, IsBlock}
+use Rattle.clause_read.specs.Settings.{begins_block, IsBlock, of_alts, case_in}
 use Rattle.clause_read.proofs.Passing.{Behind, Spelled, same_kinds, closed_within, and_then, refused_after, first_of_two, at_token, refused_at, remade, fault_after, fault_first}
 use Rattle.clause_read.proofs.Levels.{same_placed}
 use Rattle.clause_read.proofs.Operands.{behind_mark, mark_spelled}
 use Rattle.clause_read.proofs.Exits.{gives_on}
-use Rattle.clause_read.proofs.BodiedBegins.{not_size, clause_words, some_alt, alts_spell}
-use Rattle.clause_read.proofs.BodiedCommon.{only_variable, only_integer, only_character, only_string, only_bits, only_paren, bits_deep, paren_deep, NoCommon, no_common_end, no_common, common_none}
-use Rattle.clause_read.proofs.BodiedOperands.{on_tuple, on_list, of_alts, on_case, on_receive, on_if, behind_value, value_spelled, tuple_deep, list_deep, block_deep, NoneElse, OnlyCommon, none_else_end, none_else, only_common}
+use Rattle.clause_read.proofs.BodiedBegins.{clause_words, some_alt, alts_spell}
+use Rattle.clause_read.proofs.BodiedCommon.{only_variable, only_integer, only_character, only_string, only_bits, only_paren, bits_deep, paren_deep, no_common_end, no_common, common_none}
+use Rattle.clause_read.proofs.BodiedOperands.{on_tuple, on_list, on_case, on_receive, on_if, behind_value, value_spelled, tuple_deep, list_deep, block_deep, none_else_end, none_else, only_common}
 
 -- ---- Operands
 
@@ -120,18 +120,25 @@ pub operand_if_ok : (c : Context) (ws : List Word) (at next : ℕ) (n : Numbered
 operand_if_ok c ws at next n branches d m w h b a g = and_then (closed_within calls) (operand_if c ws at n m w h b a) g
 
 operand_case : (c : Context) (ws : List Word) (at : ℕ) (n : Numbered) → c.mode ≡ InBody → StandsAt ws at n → n.token.kind ≡ k.Case → c.open_ < 64 → c.deep + 1 ≤ 256 →
-    Passes {X = Placed Expr} {Y = Placed Expr × (List Alt × ℕ)} calls (operand_in c) (drop at ws) (λ p. level_in 0 (inside (under c)) p.0 ++ of_alts (inside (under c)) p.0 p.1) (drop (at + 1) ws) (λ p. record { at = n.token.span; tree = x.Case n.token.span (p.0.tree ∷ []) p.1.0; height = max p.0.height p.1.1 + 1 })
+    Passes {X = Placed Expr} {Y = Placed Expr × (List Alt × ℕ)} calls (operand_in c) (drop at ws) (case_in (inside (under c))) (drop (at + 1) ws) (λ p. record { at = n.token.span; tree = x.Case n.token.span (p.0.tree ∷ []) p.1.0; height = max p.0.height p.1.1 + 1 })
 operand_case c ws at n m w h b a = remade (λ p. same_placed w.place (ap (λ v. x.Case v (p.0.tree ∷ []) p.1.0) w.place) refl) (at_token w.is (on_case c w.word (drop (at + 1) ws) m (w.kind ∙ h) b a))
 
-pub case_value_err : (c : Context) (ws : List Word) (at : ℕ) (n : Numbered) (f : Fault) → c.mode ≡ InBody → StandsAt ws at n → n.token.kind ≡ k.Case → c.open_ < 64 → c.deep + 1 ≤ 256 → Gives (extends 0) (level_in 0 (inside (under c))) ws (at + 1) (Err f) → Gives calls (operand_in c) ws at (Err f)
-case_value_err c ws at n f m w h b a g = fault_after ws at (at + 1) f (same_kinds calls) (operand_case c ws at n m w h b a) (fault_first (level_in 0 (inside (under c))) ws (at + 1) f (behind_value (inside (under c)) calls) (value_spelled (inside (under c))) g)
+pub operand_case_err : (c : Context) (ws : List Word) (at : ℕ) (n : Numbered) (f : Fault) → c.mode ≡ InBody → StandsAt ws at n → n.token.kind ≡ k.Case → c.open_ < 64 → c.deep + 1 ≤ 256 → Gives closed (case_in (inside (under c))) ws (at + 1) (Err f) → Gives calls (operand_in c) ws at (Err f)
+operand_case_err c ws at n f m w h b a g = fault_after ws at (at + 1) f (closed_within calls) (operand_case c ws at n m w h b a) g
 
-case_then : (c : Context) (ws : List Word) (at after : ℕ) (n : Numbered) (y : Placed Expr) → c.mode ≡ InBody → StandsAt ws at n → n.token.kind ≡ k.Case → c.open_ < 64 → c.deep + 1 ≤ 256 → Gives (extends 0) (level_in 0 (inside (under c))) ws (at + 1) (Ok (y, after)) →
-    Passes {X = Placed Expr} {Y = List Alt × ℕ} calls (operand_in c) (drop at ws) (of_alts (inside (under c)) y) (drop after ws) (λ r. record { at = n.token.span; tree = x.Case n.token.span (y.tree ∷ []) r.0; height = max y.height r.1 + 1 })
-case_then c ws at after n y m w h b a g = and_then (same_kinds calls) (operand_case c ws at n m w h b a) (first_of_two (behind_value (inside (under c)) calls) g)
+pub operand_case_ok : (c : Context) (ws : List Word) (at next : ℕ) (n : Numbered) (y : Placed Expr) (alts : List Alt) (value : List Expr) (d e : ℕ) → c.mode ≡ InBody → StandsAt ws at n → n.token.kind ≡ k.Case → c.open_ < 64 → c.deep + 1 ≤ 256 → value ≡ y.tree ∷ [] → e ≡ max y.height d + 1 → Gives closed (case_in (inside (under c))) ws (at + 1) (Ok ((y, (alts, d)), next)) → Gives calls (operand_in c) ws at (Ok (record { at = n.token.span; tree = x.Case n.token.span value alts; height = e }, next))
+operand_case_ok c ws at next n y alts value d e m w h b a i j g = remade (λ v. same_placed refl (ap (λ t. x.Case n.token.span t alts) (sym i)) (sym j)) (and_then (closed_within calls) (operand_case c ws at n m w h b a) g)
+
+-- ---- Behind `case`
+
+pub value_err : (c : Context) (ws : List Word) (at : ℕ) (f : Fault) → Gives (extends 0) (level_in 0 c) ws at (Err f) → Gives closed (case_in c) ws at (Err f)
+value_err c ws at f g = fault_first (level_in 0 c) ws at f (behind_value c closed) (value_spelled c) g
+
+value_then : (c : Context) (ws : List Word) (at after : ℕ) (y : Placed Expr) → Gives (extends 0) (level_in 0 c) ws at (Ok (y, after)) → Passes {X = Placed Expr × (List Alt × ℕ)} {Y = List Alt × ℕ} closed (case_in c) (drop at ws) (of_alts c y) (drop after ws) (λ r. (y, r))
+value_then c ws at after y g = first_of_two (behind_value c closed) g
 
 -- `of` and what stands behind it are two
-of_first : (c : Context) (y : Placed Expr) (ws : List Word) (at : ℕ) → Passes {X = List Alt × ℕ} {Y = Unit {0} × (List Alt × ℕ)} calls (of_alts c y) (drop at ws) (λ p. mark_in k.Of p.0 ++ alts_in c p.1) (drop at ws) (λ p. p.1)
+of_first : (c : Context) (y : Placed Expr) (ws : List Word) (at : ℕ) → Passes {X = List Alt × ℕ} {Y = Unit {0} × (List Alt × ℕ)} closed (of_alts c y) (drop at ws) (λ p. mark_in k.Of p.0 ++ alts_in c p.1) (drop at ws) (λ p. p.1)
 of_first c y ws at = record {
   front = [];
   whole = refl;
@@ -139,24 +146,26 @@ of_first c y ws at = record {
   forth = λ l r gs w f s d. ((tt, r), refl, d);
 }
 
-of_behind : (c : Context) → Behind {X = Unit {0}} {Y = List Alt × ℕ} closed calls (λ u r. alts_in c r)
+of_behind : (c : Context) → Behind {X = Unit {0}} {Y = List Alt × ℕ} closed closed (λ u r. alts_in c r)
 of_behind c = record { behind = λ l p q gs f t w h d. cc }
 
 alts_spelled : (c : Context) → Spelled {X = Unit {0}} {Y = List Alt × ℕ} (λ u r. alts_in c r) (clause_words [])
 alts_spelled c = record { tree = λ u. (some_alt ∷ [], 1); spelled = λ l v u gs z d. alts_spell l c gs z d }
 
-pub case_of_err : (c : Context) (ws : List Word) (at after : ℕ) (n : Numbered) (y : Placed Expr) (f : Fault) → c.mode ≡ InBody → StandsAt ws at n → n.token.kind ≡ k.Case → c.open_ < 64 → c.deep + 1 ≤ 256 → Gives (extends 0) (level_in 0 (inside (under c))) ws (at + 1) (Ok (y, after)) → Gives closed (mark_in k.Of) ws after (Err f) → Gives calls (operand_in c) ws at (Err f)
-case_of_err c ws at after n y f m w h b a g q = fault_after ws at after f (same_kinds calls) (and_then (same_kinds calls) (case_then c ws at after n y m w h b a g) (of_first (inside (under c)) y ws after)) (fault_first (mark_in k.Of) ws after f (of_behind (inside (under c))) (alts_spelled (inside (under c))) q)
+before_of : (c : Context) (ws : List Word) (at after : ℕ) (y : Placed Expr) → Gives (extends 0) (level_in 0 c) ws at (Ok (y, after)) → Passes {X = Placed Expr × (List Alt × ℕ)} {Y = Unit {0} × (List Alt × ℕ)} closed (case_in c) (drop at ws) (λ p. mark_in k.Of p.0 ++ alts_in c p.1) (drop after ws) (λ p. (y, p.1))
+before_of c ws at after y g = and_then (same_kinds closed) (value_then c ws at after y g) (of_first c y ws after)
 
-case_alts : (c : Context) (ws : List Word) (at after first : ℕ) (n : Numbered) (y : Placed Expr) (u : Unit {0}) → c.mode ≡ InBody → StandsAt ws at n → n.token.kind ≡ k.Case → c.open_ < 64 → c.deep + 1 ≤ 256 → Gives (extends 0) (level_in 0 (inside (under c))) ws (at + 1) (Ok (y, after)) → Gives closed (mark_in k.Of) ws after (Ok (u, first)) →
-    Passes {X = Placed Expr} {Y = List Alt × ℕ} calls (operand_in c) (drop at ws) (alts_in (inside (under c))) (drop first ws) (λ r. record { at = n.token.span; tree = x.Case n.token.span (y.tree ∷ []) r.0; height = max y.height r.1 + 1 })
-case_alts c ws at after first n y u m w h b a g q = and_then (same_kinds calls) (and_then (same_kinds calls) (case_then c ws at after n y m w h b a g) (of_first (inside (under c)) y ws after)) (first_of_two (of_behind (inside (under c))) q)
+pub of_err : (c : Context) (ws : List Word) (at after : ℕ) (y : Placed Expr) (f : Fault) → Gives (extends 0) (level_in 0 c) ws at (Ok (y, after)) → Gives closed (mark_in k.Of) ws after (Err f) → Gives closed (case_in c) ws at (Err f)
+of_err c ws at after y f g q = fault_after ws at after f (same_kinds closed) (before_of c ws at after y g) (fault_first (mark_in k.Of) ws after f (of_behind c) (alts_spelled c) q)
 
-pub case_alts_err : (c : Context) (ws : List Word) (at after first : ℕ) (n : Numbered) (y : Placed Expr) (u : Unit {0}) (f : Fault) → c.mode ≡ InBody → StandsAt ws at n → n.token.kind ≡ k.Case → c.open_ < 64 → c.deep + 1 ≤ 256 → Gives (extends 0) (level_in 0 (inside (under c))) ws (at + 1) (Ok (y, after)) → Gives closed (mark_in k.Of) ws after (Ok (u, first)) → Gives closed (alts_in (inside (under c))) ws first (Err f) → Gives calls (operand_in c) ws at (Err f)
-case_alts_err c ws at after first n y u f m w h b a g q r = fault_after ws at first f (closed_within calls) (case_alts c ws at after first n y u m w h b a g q) r
+before_alts : (c : Context) (ws : List Word) (at after first : ℕ) (y : Placed Expr) (u : Unit {0}) → Gives (extends 0) (level_in 0 c) ws at (Ok (y, after)) → Gives closed (mark_in k.Of) ws after (Ok (u, first)) → Passes {X = Placed Expr × (List Alt × ℕ)} {Y = List Alt × ℕ} closed (case_in c) (drop at ws) (alts_in c) (drop first ws) (λ r. (y, r))
+before_alts c ws at after first y u g q = and_then (same_kinds closed) (before_of c ws at after y g) (first_of_two (of_behind c) q)
 
-pub case_ok : (c : Context) (ws : List Word) (at after first next : ℕ) (n : Numbered) (y : Placed Expr) (u : Unit {0}) (alts : List Alt) (value : List Expr) (d e : ℕ) → c.mode ≡ InBody → StandsAt ws at n → n.token.kind ≡ k.Case → c.open_ < 64 → c.deep + 1 ≤ 256 → value ≡ y.tree ∷ [] → e ≡ max y.height d + 1 → Gives (extends 0) (level_in 0 (inside (under c))) ws (at + 1) (Ok (y, after)) → Gives closed (mark_in k.Of) ws after (Ok (u, first)) → Gives closed (alts_in (inside (under c))) ws first (Ok ((alts, d), next)) → Gives calls (operand_in c) ws at (Ok (record { at = n.token.span; tree = x.Case n.token.span value alts; height = e }, next))
-case_ok c ws at after first next n y u alts value d e m w h b a i j g q r = remade (λ v. same_placed refl (ap (λ t. x.Case n.token.span t alts) (sym i)) (sym j)) (and_then (closed_within calls) (case_alts c ws at after first n y u m w h b a g q) r)
+pub alts_err : (c : Context) (ws : List Word) (at after first : ℕ) (y : Placed Expr) (u : Unit {0}) (f : Fault) → Gives (extends 0) (level_in 0 c) ws at (Ok (y, after)) → Gives closed (mark_in k.Of) ws after (Ok (u, first)) → Gives closed (alts_in c) ws first (Err f) → Gives closed (case_in c) ws at (Err f)
+alts_err c ws at after first y u f g q r = fault_after ws at first f (same_kinds closed) (before_alts c ws at after first y u g q) r
+
+pub case_parts_ok : (c : Context) (ws : List Word) (at after first next : ℕ) (y : Placed Expr) (u : Unit {0}) (alts : List Alt) (d : ℕ) → Gives (extends 0) (level_in 0 c) ws at (Ok (y, after)) → Gives closed (mark_in k.Of) ws after (Ok (u, first)) → Gives closed (alts_in c) ws first (Ok ((alts, d), next)) → Gives closed (case_in c) ws at (Ok ((y, (alts, d)), next))
+case_parts_ok c ws at after first next y u alts d g q r = and_then (same_kinds closed) (before_alts c ws at after first y u g q) r
 
 -- ---- What may stand as a segment's value too
 
@@ -221,3 +230,7 @@ literal_none ws at n w a b d e f g c m = refused_at w.is (common_none c (w.word 
   bits = λ j. f (sym w.kind ∙ j);
   paren = λ j. g (sym w.kind ∙ j);
 })))
+
+pub literal_low : (deep : ℕ) (r : Result (Placed Expr × ℕ) Fault) → deep ≤ 256 → IfOk r (λ v. v.0.height ≡ 1) → IfOk r (λ v. (1 ≤ v.0.height) × (deep + v.0.height ≤ 257))
+literal_low deep (Ok v) h e = (omega (arith, e), omega (arith, e))
+literal_low deep (Err f) h e = tt

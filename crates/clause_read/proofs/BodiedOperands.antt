@@ -1,11 +1,10 @@
 -- The laws of operands that stand in bodies and guards only.
-use Rattle.std.proofs.Common.{◌≡◌, ℕ, ◌+◌, ◌≤◌, ◌<◌, max, Bool, true, false, IsTrue, List, [], ◌∷◌, ◌++◌, Some, None, refl, sym, ap, subst, ◌∙◌, arith, ◌⊎◌, inl, inr}
+use Rattle.std.proofs.Common.{◌≡◌, ℕ, ◌+◌, ◌≤◌, ◌<◌, max, Bool, IsTrue, List, [], ◌∷◌, ◌++◌, None, refl, sym, ap, subst, ◌∙◌, arith, ◌⊎◌, inl, inr}
 use Rattle.erl_syntax.specs.declared.span.Span.{Span}
 use Rattle.erl_syntax.specs.declared.token.TokenKind.{TokenKind}
 use Rattle.erl_syntax.specs.declared.token.TokenKind.TheVariants as k
 use Rattle.erl_syntax.specs.declared.expr.Expr.{Expr}
 use Rattle.erl_syntax.specs.declared.expr.Expr.TheVariants as x
-use Rattle.erl_syntax.specs.declared.expr.Prefix.{Prefix}
 use Rattle.erl_syntax.specs.declared.clause.Alt.{Alt}
 use Rattle.erl_syntax.specs.declared.clause.Branch.{Branch}
 use Rattle.erl_syntax.specs.Word.{Word}
@@ -13,10 +12,10 @@ use Rattle.erl_syntax.specs.Operators.{prefix_of}
 use Rattle.erl_syntax.specs.Grammar.{InBody, InSize, Context, under, inside, Limits, Goal, Mark, Of, Level, Operand, Common, Exprs, ListRest, Alts, Branches, prefix, atom, macro, tuple, list, case, receive, if_, common, variable, integer, character, string, bits, paren, Spells, takes, begins, this, expands}
 use Rattle.clause_read.specs.declared.placed.Placed.{Placed}
 use Rattle.clause_read.specs.declared.fault.Cause.TheVariants.{TooDeep}
-use Rattle.clause_read.specs.Reading.{Passes, IsRefused, Follows, SameHead, closed}
-use Rattle.clause_read.specs.Wanted.{calls, extends, level_in, operand_in, exprs_in}
+use Rattle.clause_read.specs.Reading.{Passes, IsRefused, SameHead}
+use Rattle.clause_read.specs.Wanted.{calls, extends, operand_in, exprs_in}
 use Rattle.clause_read.specs.WantedExprs.{common_in, list_in, alts_in, branches_in}
-use Rattle.clause_read.specs.Settings.{begins_block}
+use Rattle.clause_read.specs.Settings.{begins_block, of_alts, case_in}
 use Rattle.clause_read.proofs.Passing.{Behind, Spelled}
 use Rattle.clause_read.proofs.Levels.{same_placed, no_prefix}
 use Rattle.clause_read.proofs.Operands.{some_word, some_expr, operand_spells, deeper, deeper_wide, mark_word}
@@ -79,10 +78,6 @@ on_list c j rest m h b = record {
 
 -- ---- Blocks
 
--- the value of a `case`, and what stands behind it
-abbrev pub of_alts : Context → Placed Expr → List Alt × ℕ → List Goal
-of_alts c y r = Mark k.Of ∷ Of (Alts c r.0 r.1) ∷ []
-
 abbrev pub case_with : Span → Placed Expr × (List Alt × ℕ) → Placed Expr
 case_with at p = record { at = at; tree = x.Case at (p.0.tree ∷ []) p.1.0; height = max p.0.height p.1.1 + 1 }
 
@@ -107,7 +102,7 @@ case_forth l c at e d gs j w h (expands _ (common c_0 at_0 e_0 d_0) (expands _ (
 case_forth l c at e d gs j w h (expands _ (common c_0 at_0 e_0 d_0) (expands _ (paren c_1 at_1 e_1 d_1 ay_1 q1_0) (begins t kk ka z))) = cc
 
 pub on_case : (c : Context) (j : Word) (rest : List Word) → c.mode ≡ InBody → j.kind ≡ k.Case → c.open_ < 64 → c.deep + 1 ≤ 256 →
-    Passes {X = Placed Expr} {Y = Placed Expr × (List Alt × ℕ)} calls (operand_in c) (j ∷ rest) (λ p. level_in 0 (inside (under c)) p.0 ++ of_alts (inside (under c)) p.0 p.1) rest (case_with j.at)
+    Passes {X = Placed Expr} {Y = Placed Expr × (List Alt × ℕ)} calls (operand_in c) (j ∷ rest) (case_in (inside (under c))) rest (case_with j.at)
 on_case c j rest m h b a = record {
   front = j ∷ [];
   whole = refl;

@@ -1,6 +1,6 @@
 -- What an expression begins with and goes on with, in a body and in a guard.
-use Rattle.std.specs.Prelude.{◌≡◌, ◌≢◌, ℕ, ◌+◌, Bool, true, false, if◌then◌else◌, IsTrue, List, [], ◌∷◌, drop, Option, Some, ◌⊎◌}
-use Rattle.erl_syntax.specs.Grammar.{InBody, Context}
+use Rattle.std.specs.Prelude.{◌≡◌, ◌≢◌, ℕ, ◌+◌, Bool, true, false, if◌then◌else◌, IsTrue, List, [], ◌∷◌, ◌++◌, drop, Some, ◌⊎◌}
+use Rattle.erl_syntax.specs.Grammar.{InBody, Context, Goal, Mark, Of, Alts}
 use Rattle.erl_syntax.specs.Operators.{operator_of, level_of}
 use Rattle.erl_syntax.specs.Word.{Word}
 use Rattle.erl_syntax.specs.declared.token.TokenKind.{TokenKind}
@@ -11,7 +11,10 @@ use Rattle.clause_read.specs.declared.fault.Cause.{Cause}
 use Rattle.clause_read.specs.declared.fault.Cause.TheVariants.{Syntax, TooDeep}
 use Rattle.clause_read.specs.declared.setting.Setting.{Setting}
 use Rattle.clause_read.specs.declared.setting.Setting.TheVariants.{Body as AsBody, Guard as AsGuard}
-use Rattle.clause_read.specs.Wanted.{NoneFollows}
+use Rattle.erl_syntax.specs.declared.expr.Expr.{Expr}
+use Rattle.erl_syntax.specs.declared.clause.Alt.{Alt}
+use Rattle.clause_read.specs.declared.placed.Placed.{Placed}
+use Rattle.clause_read.specs.Wanted.{NoneFollows, level_in}
 use Rattle.clause_read.specs.WantedExprs.{mode_of}
 
 -- the words with which blocks begin
@@ -72,3 +75,11 @@ pub record OperatorIn (s : Setting) (all : List Word) (at n : ℕ) (op : Op) : T
 -- no operator of the level follows that may stand there
 abbrev pub NoneIn : Setting → ℕ → List Word → Type 0
 NoneIn s n words = (c : Context) → c.mode ≡ mode_of s → NoneFollows n c words
+
+-- behind the value of a `case`
+abbrev pub of_alts : Context → Placed Expr → List Alt × ℕ → List Goal
+of_alts c y r = Mark k.Of ∷ Of (Alts c r.0 r.1) ∷ []
+
+-- behind `case`, up to `end`
+abbrev pub case_in : Context → Placed Expr × (List Alt × ℕ) → List Goal
+case_in c p = level_in 0 c p.0 ++ of_alts c p.0 p.1

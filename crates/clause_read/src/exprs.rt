@@ -18,10 +18,7 @@ use std::alloc::Global;
 fn begins_block(kind: TokenKind) -> bool
     ensures { result ≡ begins_block kind }
 {
-    matches!(
-        kind,
-        TokenKind::Case | TokenKind::Receive | TokenKind::If
-    )
+    matches!(kind, TokenKind::Case | TokenKind::Receive | TokenKind::If)
 }
 
 /// Whether a block begins so where blocks may stand.
@@ -224,9 +221,7 @@ pub fn tail(
     if wanted < 4 {
         return Ok(((joined.tree, joined.height), next));
     }
-    tail(
-        alloc, source, next, wanted, setting, deep, brackets, joined,
-    )
+    tail(alloc, source, next, wanted, setting, deep, brackets, joined)
 }
 
 /// Expressions up to a closing bracket.

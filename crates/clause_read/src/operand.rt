@@ -3,7 +3,7 @@ ghost use Rattle.erl_syntax.specs.Grammar.{Context, InSize};
 ghost use Rattle.erl_syntax.specs.Operators.{prefix_of};
 ghost use Rattle.erl_syntax.specs.declared.token.TokenKind.TheVariants as k;
 ghost use Rattle.clause_read.specs.Reading.{Gives, closed};
-ghost use Rattle.clause_read.specs.Settings.{begins_block};
+ghost use Rattle.clause_read.specs.Settings.{begins_block, case_in};
 ghost use Rattle.clause_read.specs.Source.{StandsAt};
 ghost use Rattle.clause_read.specs.Wanted.{after_atom_in, calls, operand_in, qualified_in};
 ghost use Rattle.clause_read.specs.WantedExprs.{common_in, in_body, in_setting};
@@ -18,7 +18,7 @@ use crate::placed::{Placed, higher};
 use crate::segments::bits;
 use crate::setting::Setting;
 use crate::source::{Numbered, Source, mark};
-use erl_syntax::{Expr, Listed, Prefix, Span, TokenKind};
+use erl_syntax::{Alt, Expr, Listed, Prefix, Span, TokenKind};
 use std::alloc::Global;
 
 /// An operand.
@@ -99,8 +99,15 @@ pub fn operand(
             if brackets >= 64 {
                 return Err(Fault::Refused(at, Cause::TooDeep));
             }
-            let ((tree, height), next) =
-                list(alloc, source, at + 1, setting, deep, brackets, place)?;
+            let ((tree, height), next) = list(
+                alloc,
+                source,
+                at + 1,
+                setting,
+                deep,
+                brackets,
+                place,
+            )?;
             Ok((
                 Placed {
                     at: place,
@@ -232,7 +239,29 @@ fn block(
     }
     let place = numbered.token.span;
     match numbered.token.kind {
-        TokenKind::Case => case_of(alloc, source, at, deep, brackets, numbered),
+        TokenKind::Case => {
+            let ((value, (alts, height)), next) = case_parts(
+                alloc,
+                source,
+                at + 1,
+                deep + 1,
+                brackets + 1,
+            )?;
+            let height = higher(value.height, height) + 1;
+            let tree = Expr::Case {
+                at: place,
+                value: one(alloc, value.tree)?,
+                alts,
+            };
+            Ok((
+                Placed {
+                    at: place,
+                    tree,
+                    height,
+                },
+                next,
+            ))
+        }
         TokenKind::Receive => {
             let ((alts, height), next) = alts(alloc, source, at + 1, deep + 1, brackets + 1)?;
             Ok((
@@ -245,8 +274,13 @@ fn block(
             ))
         }
         _ => {
-            let ((branches, height), next) =
-                branches(alloc, source, at + 1, deep + 1, brackets + 1)?;
+            let ((branches, height), next) = branches(
+                alloc,
+                source,
+                at + 1,
+                deep + 1,
+                brackets + 1,
+            )?;
             Ok((
                 Placed {
                     at: place,
@@ -262,53 +296,27 @@ fn block(
     }
 }
 
-/// A `case`.
+/// The value and the clauses of a `case`, behind the word.
 #[cycle(expr)]
-fn case_of(
+fn case_parts(
     alloc: Global,
     source: &Source,
     at: usize,
     deep: usize,
     brackets: usize,
-    numbered: Numbered,
-) -> Result<(Placed<Expr>, usize), Fault>
+) -> Result<((Placed<Expr>, (Listed<Alt>, usize)), usize), Fault>
     requires place { at ≤ length source.now }
-    requires tree { deep < 256 }
-    requires bracket { brackets < 64 }
-    requires token { StandsAt source.now at numbered }
-    requires begins { numbered.token.kind ≡ k.Case }
-    requires within { at < length source.now }
-    requires short { length source.now < 2 ^ 64 }
-    ensures reads { Gives calls (operand_in (in_body deep brackets)) source.now at result }
+    requires tree { deep ≤ 256 }
+    requires bracket { brackets ≤ 64 }
+    ensures reads { Gives closed (case_in (in_body deep brackets)) source.now at result }
     ensures further { IfOk result (λ r. at < r.1 × (r.1 ≤ length source.now)) }
-    ensures bounded { IfOk result (λ r. (1 ≤ r.0.height) × (deep + r.0.height ≤ 257)) }
+    ensures value { IfOk result (λ r. (1 ≤ r.0.0.height) × (deep + r.0.0.height ≤ 257)) }
+    ensures alts { IfOk result (λ r. deep + r.0.1.1 ≤ 257) }
 {
-    let place = numbered.token.span;
-    let (value, after) = level(
-        alloc,
-        source,
-        at + 1,
-        0,
-        Setting::Body,
-        deep + 1,
-        brackets + 1,
-    )?;
+    let (value, after) = level(alloc, source, at, 0, Setting::Body, deep, brackets)?;
     let ((), first) = mark(source, after, TokenKind::Of)?;
-    let ((alts, height), next) = alts(alloc, source, first, deep + 1, brackets + 1)?;
-    let height = higher(value.height, height) + 1;
-    let tree = Expr::Case {
-        at: place,
-        value: one(alloc, value.tree)?,
-        alts,
-    };
-    Ok((
-        Placed {
-            at: place,
-            tree,
-            height,
-        },
-        next,
-    ))
+    let ((alts, height), next) = alts(alloc, source, first, deep, brackets)?;
+    Ok(((value, (alts, height)), next))
 }
 
 /// What may stand as an operand and as a segment's value.
@@ -337,8 +345,15 @@ pub fn common(
             if brackets >= 64 {
                 return Err(Fault::Refused(at, Cause::TooDeep));
             }
-            let ((tree, height), next) =
-                bits(alloc, source, at + 1, setting, deep, brackets, place)?;
+            let ((tree, height), next) = bits(
+                alloc,
+                source,
+                at + 1,
+                setting,
+                deep,
+                brackets,
+                place,
+            )?;
             Ok((
                 Placed {
                     at: place,
@@ -458,9 +473,7 @@ pub fn after_atom(
             at: place,
             atom: name,
         };
-        return qualified(
-            alloc, source, at, setting, deep, brackets, place, qualifier,
-        );
+        return qualified(alloc, source, at, setting, deep, brackets, place, qualifier);
     }
     if brackets >= 64 {
         return Err(Fault::Refused(at, Cause::TooDeep));

@@ -26,8 +26,8 @@ decreases-operand::tuple l = 32 * (length l.source.now - l.at)
 abbrev pub decreases-operand::block : goal.decreases-operand::block
 decreases-operand::block l = 32 * (length l.source.now - l.at)
 
-abbrev pub decreases-operand::case_of : goal.decreases-operand::case_of
-decreases-operand::case_of l = 32 * (length l.source.now - l.at)
+abbrev pub decreases-operand::case_parts : goal.decreases-operand::case_parts
+decreases-operand::case_parts l = 32 * (length l.source.now - l.at) + 10
 
 abbrev pub decreases-operand::common : goal.decreases-operand::common
 decreases-operand::common l = 32 * (length l.source.now - l.at)
