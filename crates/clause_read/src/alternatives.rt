@@ -2,9 +2,11 @@ ghost use Rattle.std.specs.Prelude.{◌≤◌, ◌<◌, ◌+◌, length, IfOk};
 ghost use Rattle.clause_read.specs.Reading.{Gives, closed};
 ghost use Rattle.clause_read.specs.WantedExprs.{alt_in, alts_in, body_longer, branch_in, branches_in, in_body};
 
-use crate::fault::Fault;
+use crate::bodies::{body, tests};
+use crate::fault::{Cause, Fault};
+use crate::placed::higher;
 use crate::source::Source;
-use erl_syntax::{Alt, Branch, Listed};
+use erl_syntax::{Alt, Branch, Guard, Listed, TokenKind};
 use std::alloc::Global;
 
 /// The clauses of `case` and `receive`, up to `end`.
@@ -22,7 +24,21 @@ pub fn alts(
     ensures further { IfOk result (λ r. at < r.1 × (r.1 ≤ length source.now)) }
     ensures bounded { IfOk result (λ r. (1 ≤ r.0.1) × (deep + r.0.1 ≤ 257)) }
 {
-    Err(Fault::Memory)
+    let mut alts = Vec::new(alloc);
+    let mut height = 0;
+    let mut next = at;
+    loop {
+        let ((read, tall), after) = alt(alloc, source, next, deep, brackets)?;
+        alts.push(read)?;
+        height = higher(height, tall);
+        if source.is(after, TokenKind::End) {
+            return Ok(((Listed::of(alts), height), after + 1));
+        }
+        if !source.is(after, TokenKind::Semicolon) {
+            return Err(Fault::Refused(after, Cause::Syntax));
+        }
+        next = after + 1;
+    }
 }
 
 /// A clause of `case` or `receive`.
@@ -58,7 +74,21 @@ pub fn branches(
     ensures further { IfOk result (λ r. at < r.1 × (r.1 ≤ length source.now)) }
     ensures bounded { IfOk result (λ r. (1 ≤ r.0.1) × (deep + r.0.1 ≤ 257)) }
 {
-    Err(Fault::Memory)
+    let mut branches = Vec::new(alloc);
+    let mut height = 0;
+    let mut next = at;
+    loop {
+        let ((read, tall), after) = branch(alloc, source, next, deep, brackets)?;
+        branches.push(read)?;
+        height = higher(height, tall);
+        if source.is(after, TokenKind::End) {
+            return Ok(((Listed::of(branches), height), after + 1));
+        }
+        if !source.is(after, TokenKind::Semicolon) {
+            return Err(Fault::Refused(after, Cause::Syntax));
+        }
+        next = after + 1;
+    }
 }
 
 /// A clause of `if`.
@@ -76,5 +106,14 @@ pub fn branch(
     ensures further { IfOk result (λ r. at < r.1 × (r.1 ≤ length source.now)) }
     ensures bounded { IfOk result (λ r. (1 ≤ r.0.1) × (deep + r.0.1 ≤ 257)) }
 {
-    Err(Fault::Memory)
+    let (read, after) = tests(alloc, source, at, deep, brackets)?;
+    let ((items, body_height), next) = body(alloc, source, after, deep, brackets)?;
+    let branch = Branch {
+        at: read.at,
+        guard: Guard {
+            alternatives: read.tree,
+        },
+        body: items,
+    };
+    Ok(((branch, higher(read.height, body_height)), next))
 }

@@ -4,9 +4,11 @@ pub mod WorkedRows
 pub mod Values
 pub mod Measures
 pub mod Completion
+pub mod SmallNumbers
 pub mod Smaller
 pub mod Shrinks
 pub mod Finishes
 pub mod Within
 pub mod Compared
+pub mod Joined
 pub mod ReadsBack

@@ -6,6 +6,7 @@ pub mod Characters
 pub mod Decode
 pub mod Encode
 pub mod Guards
+pub mod Joining
 pub mod Laws
 pub mod Local
 pub mod Machine

@@ -8,9 +8,13 @@ mod entry;
 mod laws;
 mod look;
 mod measure;
+mod names;
 mod rows;
 mod runs;
+mod showing;
 mod term;
+#[cfg(test)]
+mod tests;
 
 pub use arithmetic::arith;
 pub use comparison::compare;
@@ -19,4 +23,5 @@ pub use entry::Entry;
 pub use laws::{complete_is_last, each_asks, integer_reads_back};
 pub use look::Look;
 pub use measure::{depth, weight};
+pub use showing::show;
 pub use term::{Items, Term};
