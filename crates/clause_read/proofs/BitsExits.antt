@@ -1,8 +1,7 @@
 -- What each exit of the readers of bit expressions says.
-use Rattle.std.proofs.Common.{◌≡◌, ℕ, ◌+◌, ◌≤◌, ◌<◌, max, true, false, List, [], ◌∷◌, ◌++◌, append_assoc, drop, Option, Some, None, Result, Ok, Err, refl, sym, ap, subst, ◌∙◌, arith}
+use Rattle.std.proofs.Common.{◌≡◌, ℕ, ◌+◌, ◌≤◌, ◌<◌, max, true, false, List, [], ◌∷◌, ◌++◌, append_assoc, drop, Result, Ok, Err, refl, sym, ap, subst, ◌∙◌, arith}
 use Rattle.std.proofs.lemmas.List.{append-nil}
 use Rattle.erl_syntax.specs.declared.span.Span.{Span}
-use Rattle.erl_syntax.specs.declared.token.TokenKind.{TokenKind}
 use Rattle.erl_syntax.specs.declared.token.TokenKind.TheVariants as k
 use Rattle.erl_syntax.specs.declared.expr.Expr.{Expr}
 use Rattle.erl_syntax.specs.declared.expr.Expr.TheVariants as x
@@ -10,7 +9,7 @@ use Rattle.erl_syntax.specs.declared.expr.Prefix.{Prefix}
 use Rattle.erl_syntax.specs.declared.segment.Segment.{Segment}
 use Rattle.erl_syntax.specs.declared.qual.Qual.{Qual}
 use Rattle.erl_syntax.specs.Word.{Word}
-use Rattle.erl_syntax.specs.Grammar.{Mode, InBody, InSize, Context, under, inside, Goal}
+use Rattle.erl_syntax.specs.Grammar.{InBody, InSize, Context, under, inside}
 use Rattle.clause_read.specs.Source.{StandsAt}
 use Rattle.clause_read.specs.declared.source.Numbered.{Numbered}
 use Rattle.clause_read.specs.declared.placed.Placed.{Placed}
@@ -24,10 +23,8 @@ use Rattle.clause_read.specs.declared.setting.Setting.TheVariants.{Body as AsBod
 use Rattle.clause_read.specs.WantedExprs.{bits_in, in_body, mode_of, quals_in, segment_in, segment_longer, segment_rest_in, simple_in}
 use Rattle.clause_read.specs.WantedSegments.{prefixed_in, more_segments_in, after_value_in, begins_simple, PrefixAt, NoPrefix, NoRow, GivesBehind}
 use Rattle.clause_read.specs.WantedPatterns.{FirstToken, only_deeper, at_end, at_other}
-use Rattle.clause_read.proofs.Passing.{same_kinds, closed_within, behind_closed, and_then, refused_after, first_of_two, at_token, at_place, refused_at, remade, fault_after, fault_first}
+use Rattle.clause_read.proofs.Passing.{same_kinds, behind_closed, and_then, refused_after, first_of_two, at_token, at_place, refused_at, remade, fault_after, fault_first}
 use Rattle.clause_read.proofs.Levels.{same_pair}
-use Rattle.clause_read.proofs.Exits.{gives_on}
-use Rattle.clause_read.proofs.SegmentLaws.{rest_spelled}
 use Rattle.clause_read.proofs.BitsLaws.{on_no_bits, with_segments, on_signed_bits, signed_bits_deep, on_bits_value, value_completed, value_too_deep, no_value_there, no_value_at_end, on_more_segments, on_end_segments, segments_refused, behind_segment, segments_spelled, on_bits_row, on_bits_segments}
 
 -- ---- Behind `<<`
@@ -74,7 +71,7 @@ value_rest_err c ws at place y f n g = λ start p. fault_after ws start at f (sa
 pub value_rest_then : (c : Context) (ws : List Word) (at next : ℕ) (place : Span) (y : Placed Expr) (sg : Segment) (h : ℕ) (r : Result ((Expr × ℕ) × ℕ) Fault) → NoRow c.mode (drop at ws) → Gives segment_longer (segment_rest_in (inside (under c)) y) ws at (Ok ((sg, h), next)) → BehindSegment c ws next place sg h r → GivesBehind (bits_in c place) (after_value_in c place y) (λ v. v) ws at r
 value_rest_then c ws at next place y sg h r n g m = λ start p. m start (and_then (same_kinds closed) (and_then (same_kinds closed) p (on_bits_segments c place y (drop at ws) n)) (first_of_two (behind_segment (inside (under c))) g))
 
-body_context : (c : Context) → c.mode ≡ InBody → inside (under c) ≡ in_body (c.deep + 1) (c.open_ + 1)
+pub body_context : (c : Context) → c.mode ≡ InBody → inside (under c) ≡ in_body (c.deep + 1) (c.open_ + 1)
 body_context c m = ap (λ v. record { mode = v; deep = c.deep + 1; open_ = c.open_ + 1 }) m
 
 value_row : (c : Context) (ws : List Word) (at : ℕ) (place : Span) (y : Placed Expr) → c.mode ≡ InBody → IsAt ws at k.DoubleBar →

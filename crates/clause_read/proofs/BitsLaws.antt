@@ -1,5 +1,5 @@
 -- The laws of bit expressions, behind `<<`.
-use Rattle.std.proofs.Common.{◌≡◌, ℕ, ◌+◌, ◌≤◌, ◌<◌, max, false, IsTrue, List, [], ◌∷◌, ◌++◌, append_assoc, Some, None, refl, sym, ap, subst, ◌∙◌, arith, pos}
+use Rattle.std.proofs.Common.{◌≡◌, ℕ, ◌+◌, ◌≤◌, ◌<◌, max, false, IsTrue, List, [], ◌∷◌, ◌++◌, append_assoc, Some, None, refl, sym, ap, ◌∙◌, arith, pos}
 use Rattle.erl_syntax.specs.declared.span.Span.{Span}
 use Rattle.erl_syntax.specs.declared.token.TokenKind.{TokenKind}
 use Rattle.erl_syntax.specs.declared.token.TokenKind.TheVariants as k
@@ -10,10 +10,10 @@ use Rattle.erl_syntax.specs.declared.segment.Segment.{Segment}
 use Rattle.erl_syntax.specs.declared.qual.Qual.{Qual}
 use Rattle.erl_syntax.specs.Word.{Word}
 use Rattle.erl_syntax.specs.Operators.{prefix_of}
-use Rattle.erl_syntax.specs.Grammar.{Mode, InBody, InSize, Context, under, inside, Limits, Goal, Mark, Of, Simple, SegmentRest, ASegment, Prefixed, BitsRest, AfterValue, MoreSegments, Quals, simple_atom, simple, variable, integer, character, string, bits, paren, sized, unsized, typed, untyped, prefixed, no_bits, bits_prefixed, bits_first, bits_for, bits_segments, more_segments, end_segments, no_exprs, Spells, takes, begins, this, expands}
+use Rattle.erl_syntax.specs.Grammar.{InBody, InSize, Context, under, inside, Limits, Goal, Mark, Of, Simple, SegmentRest, ASegment, Prefixed, BitsRest, AfterValue, MoreSegments, Quals, simple_atom, simple, variable, integer, character, string, bits, paren, sized, unsized, typed, untyped, prefixed, no_bits, bits_prefixed, bits_first, bits_for, bits_segments, more_segments, end_segments, Spells, takes, begins, this, expands}
 use Rattle.clause_read.specs.declared.placed.Placed.{Placed}
 use Rattle.clause_read.specs.declared.fault.Cause.TheVariants.{Syntax, TooDeep}
-use Rattle.clause_read.specs.Reading.{Passes, IsRefused, Follows, SameHead, closed, nothing}
+use Rattle.clause_read.specs.Reading.{Passes, IsRefused, SameHead, closed, nothing}
 use Rattle.clause_read.specs.Wanted.{NoMark, no_mark_end, no_mark}
 use Rattle.clause_read.specs.WantedExprs.{bits_in, quals_in, segment_in, segment_longer, segment_rest_in, simple_in}
 use Rattle.clause_read.specs.WantedSegments.{prefixed_in, more_segments_in, after_value_in, begins_simple, NoPrefix, no_prefix_end, no_prefix_word, NoRow}

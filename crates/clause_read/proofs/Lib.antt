@@ -17,6 +17,8 @@ pub mod GuardExits
 pub mod GuardLaws
 pub mod Interning
 pub mod Levels
+pub mod ListExits
+pub mod ListLaws
 pub mod Numbers
 pub mod Operands
 pub mod Passing

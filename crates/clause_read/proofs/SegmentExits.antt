@@ -1,7 +1,6 @@
 -- What each exit of the readers of segments says.
 use Rattle.std.proofs.Common.{◌≡◌, ℕ, ◌+◌, ◌≤◌, ◌<◌, max, List, [], ◌∷◌, ◌++◌, drop, Option, Some, None, Result, Ok, Err, refl, sym, ap, subst, ◌∙◌}
 use Rattle.erl_syntax.specs.declared.span.Span.{Span}
-use Rattle.erl_syntax.specs.declared.token.TokenKind.{TokenKind}
 use Rattle.erl_syntax.specs.declared.token.TokenKind.TheVariants as k
 use Rattle.erl_syntax.specs.declared.expr.Expr.{Expr}
 use Rattle.erl_syntax.specs.declared.expr.Expr.TheVariants as x
@@ -9,7 +8,7 @@ use Rattle.erl_syntax.specs.declared.expr.Prefix.{Prefix}
 use Rattle.erl_syntax.specs.declared.segment.Segment.{Segment}
 use Rattle.erl_syntax.specs.Word.{Word}
 use Rattle.erl_syntax.specs.Operators.{prefix_of}
-use Rattle.erl_syntax.specs.Grammar.{Context, under, Goal}
+use Rattle.erl_syntax.specs.Grammar.{Context, under}
 use Rattle.clause_read.specs.Source.{StandsAt, number_of}
 use Rattle.clause_read.specs.declared.source.Numbered.{Numbered}
 use Rattle.clause_read.specs.declared.placed.Placed.{Placed}

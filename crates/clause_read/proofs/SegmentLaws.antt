@@ -1,5 +1,5 @@
 -- The laws of segments: what each token does where one, its value or what stands behind its value is wanted.
-use Rattle.std.proofs.Common.{◌≡◌, ℕ, ◌+◌, ◌≤◌, ◌<◌, max, Bool, true, false, IsTrue, List, [], ◌∷◌, ◌++◌, Option, Some, None, refl, sym, ap, subst, ◌∙◌, arith}
+use Rattle.std.proofs.Common.{◌≡◌, ℕ, ◌+◌, ◌≤◌, ◌<◌, max, IsTrue, List, [], ◌∷◌, ◌++◌, Option, Some, None, refl, sym, ap, subst, ◌∙◌, arith}
 use Rattle.erl_syntax.specs.declared.span.Span.{Span}
 use Rattle.erl_syntax.specs.declared.token.TokenKind.{TokenKind}
 use Rattle.erl_syntax.specs.declared.token.TokenKind.TheVariants as k
@@ -9,7 +9,7 @@ use Rattle.erl_syntax.specs.declared.expr.Prefix.{Prefix}
 use Rattle.erl_syntax.specs.declared.segment.Segment.{Segment}
 use Rattle.erl_syntax.specs.Word.{Word}
 use Rattle.erl_syntax.specs.Operators.{prefix_of}
-use Rattle.erl_syntax.specs.Grammar.{Context, under, inside, Limits, Goal, Mark, The, Of, Common, Simple, SegmentRest, SegmentType, ASegment, Prefixed, variable, integer, character, string, bits, paren, simple_atom, simple, sized, unsized, typed, untyped, segment_prefixed, segment, prefixed, Spells, takes, begins, this, expands}
+use Rattle.erl_syntax.specs.Grammar.{Context, under, Limits, Goal, Of, Common, Simple, SegmentRest, SegmentType, ASegment, Prefixed, variable, integer, character, string, bits, paren, simple_atom, simple, sized, unsized, typed, untyped, segment_prefixed, segment, prefixed, Spells, takes, begins, this, expands}
 use Rattle.clause_read.specs.declared.placed.Placed.{Placed}
 use Rattle.clause_read.specs.declared.fault.Cause.TheVariants.{TooDeep}
 use Rattle.clause_read.specs.Reading.{Passes, IsRefused, Follows, SameHead, closed, nothing}

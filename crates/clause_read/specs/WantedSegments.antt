@@ -35,8 +35,8 @@ abbrev pub list_items_in : Context → (List Expr × List Expr) × ℕ → List 
 list_items_in c r = Of (ListItems c r.0.0 r.0.1 r.1) ∷ []
 
 -- an expression and the closing bracket
-abbrev pub last_in : TokenKind → Context → Placed Expr × Unit {0} → List Goal
-last_in close c p = level_in 0 c p.0 ++ (Mark close ∷ [])
+abbrev pub last_in : TokenKind → Context → Placed Expr → List Goal
+last_in close c y = level_in 0 c y ++ (Mark close ∷ [])
 
 -- a segment's value begins so, with no operator before it
 abbrev pub begins_simple : TokenKind → Bool

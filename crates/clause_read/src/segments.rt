@@ -115,8 +115,16 @@ pub fn bits(
         if deep >= 255 {
             return Err(Fault::Refused(at, Cause::TooDeep));
         }
-        let ((first, height), next) =
-            prefixed(alloc, source, at, setting, deep + 1, brackets + 1, sign, op)?;
+        let ((first, height), next) = prefixed(
+            alloc,
+            source,
+            at,
+            setting,
+            deep + 1,
+            brackets + 1,
+            sign,
+            op,
+        )?;
         return more_segments(
             alloc, source, next, setting, deep, brackets, place, first, height,
         );
@@ -125,9 +133,7 @@ pub fn bits(
         return Err(Fault::Refused(at, simple_cause(source, at)));
     }
     let (value, next) = simple(alloc, source, at, setting, deep + 1, brackets + 1)?;
-    after_value(
-        alloc, source, next, setting, deep, brackets, place, value,
-    )
+    after_value(alloc, source, next, setting, deep, brackets, place, value)
 }
 
 /// A bit expression or a bit string comprehension, behind its first value.
@@ -151,8 +157,15 @@ fn after_value(
     ensures bounded { IfOk result (λ r. (1 ≤ r.0.1) × (deep + r.0.1 ≤ 257)) }
 {
     if !is_row(source, at, setting) {
-        let ((first, height), next) =
-            segment_rest(alloc, source, at, setting, deep + 1, brackets + 1, value)?;
+        let ((first, height), next) = segment_rest(
+            alloc,
+            source,
+            at,
+            setting,
+            deep + 1,
+            brackets + 1,
+            value,
+        )?;
         return more_segments(
             alloc, source, next, setting, deep, brackets, place, first, height,
         );
@@ -221,8 +234,14 @@ fn more_segments(
         if !source.is(next, TokenKind::Comma) {
             return Err(Fault::Refused(next, Cause::Syntax));
         }
-        let ((item, tall), after) =
-            segment(alloc, source, next + 1, setting, deep + 1, brackets + 1)?;
+        let ((item, tall), after) = segment(
+            alloc,
+            source,
+            next + 1,
+            setting,
+            deep + 1,
+            brackets + 1,
+        )?;
         segments.push(item)?;
         highest = higher(highest, tall);
         next = after;

@@ -1,4 +1,4 @@
-use Rattle.std.proofs.Common.{rules, arith, ◌+◌, ◌∙◌, ap}
+use Rattle.std.proofs.Common.{rules, ◌+◌, ◌∙◌, ap}
 use Rattle.std.proofs.lemmas.Result.{err_from_is_err_and}
 use Rattle.clause_read.specs.WantedExprs.{in_setting}
 use Rattle.clause_read.proofs.BitsExits.{value_rest_err, value_rest_then, value_row_err, value_row_ok}

@@ -1,4 +1,4 @@
-use Rattle.std.proofs.Common.{rules, arith, ◌+◌, ◌∙◌}
+use Rattle.std.proofs.Common.{rules, arith}
 use Rattle.std.proofs.lemmas.Result.{err_from_is_err_and}
 use Rattle.clause_read.specs.WantedExprs.{in_setting}
 use Rattle.clause_read.proofs.BitsExits.{segments_end, segments_other, segments_err, segments_next}
