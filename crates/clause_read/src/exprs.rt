@@ -6,6 +6,7 @@ ghost use Rattle.clause_read.specs.WantedExprs.{in_setting};
 ghost use Rattle.clause_read.specs.declared.fault.Fault.TheVariants.{Memory};
 
 use crate::fault::{Cause, Fault};
+use crate::operand::operand;
 use crate::operators::{level as level_of, operator, right_of};
 use crate::placed::{Placed, higher};
 use crate::setting::Setting;
@@ -143,6 +144,7 @@ pub fn one(alloc: Global, part: Expr) -> Result<Listed<Expr>, Fault>
 }
 
 /// An expression of a level: 0 to 5 are the binary operators from the one that binds least, 6 an operand.
+#[cycle(expr)]
 pub fn level(
     alloc: Global,
     source: &Source,
@@ -160,10 +162,26 @@ pub fn level(
     ensures further { IfOk result (λ r. at < r.1 × (r.1 ≤ length source.now)) }
     ensures bounded { IfOk result (λ r. (1 ≤ r.0.height) × (deep + r.0.height ≤ 257)) }
 {
-    Err(Fault::Memory)
+    if wanted == 6 {
+        return operand(alloc, source, at, setting, deep, brackets);
+    }
+    let (first, after) = level(alloc, source, at, wanted + 1, setting, deep, brackets)?;
+    let place = first.at;
+    let ((tree, height), next) = tail(
+        alloc, source, after, wanted, setting, deep, brackets, first,
+    )?;
+    Ok((
+        Placed {
+            at: place,
+            tree,
+            height,
+        },
+        next,
+    ))
 }
 
 /// What stands at a level behind its first operand.
+#[cycle(expr)]
 pub fn tail(
     alloc: Global,
     source: &Source,
@@ -184,10 +202,30 @@ pub fn tail(
     ensures further { IfOk result (λ r. at ≤ r.1 × (r.1 ≤ length source.now)) }
     ensures bounded { IfOk result (λ r. (1 ≤ r.0.1) × (deep + r.0.1 ≤ 257)) }
 {
-    Err(Fault::Memory)
+    let Some(op) = operator_at(source, at, wanted, setting) else {
+        return Ok(((left.tree, left.height), at));
+    };
+    if deep + left.height > 256 {
+        return Err(Fault::Refused(at, Cause::TooDeep));
+    }
+    let (right, next) = level(
+        alloc,
+        source,
+        at + 1,
+        right_of(wanted),
+        setting,
+        deep + 1,
+        brackets,
+    )?;
+    let joined = binary(alloc, op, left, right)?;
+    if wanted < 4 {
+        return Ok(((joined.tree, joined.height), next));
+    }
+    tail(alloc, source, next, wanted, setting, deep, brackets, joined)
 }
 
 /// Expressions up to a closing bracket.
+#[cycle(expr)]
 pub fn exprs(
     alloc: Global,
     source: &Source,
@@ -205,5 +243,25 @@ pub fn exprs(
     ensures further { IfOk result (λ r. at < r.1 × (r.1 ≤ length source.now)) }
     ensures bounded { IfOk result (λ r. deep + r.0.1 ≤ 257) }
 {
-    Err(Fault::Memory)
+    let mut items = Vec::new(alloc);
+    if source.is(at, close) {
+        return Ok(((Listed::of(items), 0), at + 1));
+    }
+    if deep > 256 {
+        return Err(Fault::Refused(at, cause_of_first(source, at, setting)));
+    }
+    let mut height = 0;
+    let mut next = at;
+    loop {
+        let (item, after) = level(alloc, source, next, 0, setting, deep, brackets)?;
+        items.push(item.tree)?;
+        height = higher(height, item.height);
+        if source.is(after, close) {
+            return Ok(((Listed::of(items), height), after + 1));
+        }
+        if !source.is(after, TokenKind::Comma) {
+            return Err(Fault::Refused(after, Cause::Syntax));
+        }
+        next = after + 1;
+    }
 }
