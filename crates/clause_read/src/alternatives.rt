@@ -2,8 +2,9 @@ ghost use Rattle.std.specs.Prelude.{◌≤◌, ◌<◌, ◌+◌, length, IfOk};
 ghost use Rattle.clause_read.specs.Reading.{Gives, closed};
 ghost use Rattle.clause_read.specs.WantedExprs.{alt_in, alts_in, body_longer, branch_in, branches_in, in_body};
 
-use crate::bodies::{body, tests};
+use crate::bodies::{body, guarded, tests};
 use crate::fault::{Cause, Fault};
+use crate::patterns::pattern;
 use crate::placed::higher;
 use crate::source::Source;
 use erl_syntax::{Alt, Branch, Guard, Listed, TokenKind};
@@ -56,7 +57,17 @@ pub fn alt(
     ensures further { IfOk result (λ r. at < r.1 × (r.1 ≤ length source.now)) }
     ensures bounded { IfOk result (λ r. (1 ≤ r.0.1) × (deep + r.0.1 ≤ 257)) }
 {
-    Err(Fault::Memory)
+    let (first, after) = pattern(alloc, source, at, deep, brackets)?;
+    let ((guard, guard_height), then) = guarded(alloc, source, after, deep, brackets)?;
+    let ((items, body_height), next) = body(alloc, source, then, deep, brackets)?;
+    let alt = Alt {
+        at: first.at,
+        pattern: first.tree,
+        guard,
+        body: items,
+    };
+    let height = higher(first.height, higher(guard_height, body_height));
+    Ok(((alt, height), next))
 }
 
 /// The clauses of `if`, up to `end`.
