@@ -1,3 +1,7 @@
+pub mod LeafExits
+pub mod Signs
+pub mod FirstTokens
+pub mod PatBegins
 pub mod Types
 pub mod SpecWords
 pub mod Calls

@@ -3,6 +3,10 @@
 
 pub mod fault;
 mod operators;
+mod pattern_leaves;
+mod pattern_segments;
+mod pattern_starts;
+pub mod patterns;
 pub mod placed;
 pub mod segment_types;
 pub mod sizes;
