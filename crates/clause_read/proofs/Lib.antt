@@ -1,3 +1,4 @@
+pub mod Values
 pub mod LeafExits
 pub mod Signs
 pub mod FirstTokens
