@@ -1,3 +1,4 @@
+pub mod Segs
 pub mod Values
 pub mod LeafExits
 pub mod Signs
