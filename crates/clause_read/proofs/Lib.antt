@@ -1,3 +1,5 @@
+pub mod PatExits
+pub mod PatTails
 pub mod Segs
 pub mod Values
 pub mod LeafExits
