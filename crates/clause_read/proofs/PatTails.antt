@@ -150,8 +150,8 @@ patterns_depth l close c _ d gs rest w n s (expands _ (patterns close_0 c_0 ay y
 patterns_depth l close c _ d gs _ w no_mark_end s (expands _ (no_patterns close_0 c_0 d_0 q0) (takes t i z)) = absurd s
 patterns_depth l close c _ d gs _ w (no_mark j rest n) s (expands _ (no_patterns close_0 c_0 d_0 q0) (takes t i z)) = absurd (n (ap (λ v. v.kind) (sym s) ∙ i))
 
-deep_not : {c : Context} {l : Limits} → 256 < c.deep → l.trees ≡ 256 → c.deep ≤ l.trees → ⊥
-deep_not b i a = omega arith
+deep_not : (c : Context) (l : Limits) → 256 < c.deep → l.trees ≡ 256 → c.deep ≤ l.trees → ⊥
+deep_not c l b i a = omega arith
 
 patterns_too_deep : (close : TokenKind) (c : Context) (j : Word) (rest : List Word) → NoMark close (j ∷ rest) → IsTrue (begins_pattern j.kind) → 256 < c.deep → IsRefused {X = List Pattern × ℕ} closed (patterns_in close c) (j ∷ rest) (j ∷ rest) TooDeep
 patterns_too_deep close c j rest n b h = let g : Begun c j = begun c j j.kind refl b in record {
@@ -160,7 +160,7 @@ patterns_too_deep close c j rest n b h = let g : Begun c j = begun c j j.kind re
   tree = ([], 0);
   more = mark_word close ∷ [];
   goes_on = λ l v gs w d. expands _ (no_patterns close c 0 refl) (takes (mark_word close) refl d);
-  stops = λ l i r gs w o s d. deep_not {c = c} {l = l} h i.trees (patterns_depth l close c r.0 r.1 gs (j ∷ rest) w n s d).0;
+  stops = λ l i r gs w o s d. deep_not c l h i.trees (patterns_depth l close c r.0 r.1 gs (j ∷ rest) w n s d).0;
   excused = record {
     limits = deeper (c.deep + 1) (c.open_ + 1);
     wide = deeper_wide (c.deep + 1) (c.open_ + 1);
@@ -322,7 +322,7 @@ list_too_deep c j rest n b h = let g : Begun c j = begun c j j.kind refl b in re
   tree = (([], []), 0);
   more = mark_word k.RightBracket ∷ [];
   goes_on = λ l v gs w d. expands _ (no_pattern_list c 0 refl) (takes (mark_word k.RightBracket) refl d);
-  stops = λ l i r gs w o s d. deep_not {c = c} {l = l} h i.trees (list_forth l c r.0.0 r.0.1 r.1 gs (j ∷ rest) w n s d).0;
+  stops = λ l i r gs w o s d. deep_not c l h i.trees (list_forth l c r.0.0 r.0.1 r.1 gs (j ∷ rest) w n s d).0;
   excused = record {
     limits = deeper (c.deep + 1) (c.open_ + 1);
     wide = deeper_wide (c.deep + 1) (c.open_ + 1);

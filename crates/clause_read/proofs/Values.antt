@@ -276,7 +276,7 @@ sign_ok c deep ws at n i op part number z q s t h p b g a y m =
     let v : t.word.number ≡ i.value = t.number ∙ ap (number_of i) g in
     let w : x.Int t.word.at (pos t.word.number) ≡ number = ap (λ u. x.Int u (pos t.word.number)) t.place ∙ ap (λ u. x.Int i.token.span (pos u)) v ∙ ap (λ u. x.Int i.token.span u) (sym m) ∙ sym y in
     remade (λ u. same_placed s.place (ap (λ l. x.Unary l op (x.Int t.word.at (pos t.word.number) ∷ [])) s.place ∙ ap (λ l. x.Unary n.token.span op (l ∷ [])) w ∙ ap (λ l. x.Unary n.token.span op l) (sym a)) refl)
-      (at_token r (on_signed c s.word t.word (drop (at + 2) ws) op (subst (λ u. u ≡ k.Plus ⊎ u ≡ k.Minus) (sym s.kind) h) (ap prefix_of s.kind ∙ p) (omega arith) (t.kind ∙ g)))
+    (at_token r (on_signed c s.word t.word (drop (at + 2) ws) op (subst (λ u. u ≡ k.Plus ⊎ u ≡ k.Minus) (sym s.kind) h) (ap prefix_of s.kind ∙ p) (omega arith) (t.kind ∙ g)))
 
 begins_none : (kind : TokenKind) → (kind ≡ k.Variable → ⊥) → (kind ≡ k.Underscore → ⊥) → (kind ≡ k.Integer → ⊥) → (kind ≡ k.Plus → ⊥) → (kind ≡ k.Minus → ⊥) → (kind ≡ k.Character → ⊥) → (kind ≡ k.Str → ⊥) → begins_value kind ≡ false
 begins_none k.Variable a b c d e o g = absurd (a refl)
