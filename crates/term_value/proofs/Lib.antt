@@ -5,6 +5,7 @@ pub mod Values
 pub mod Measures
 pub mod Completion
 pub mod SmallNumbers
+pub mod Spellings
 pub mod Smaller
 pub mod Shrinks
 pub mod Finishes

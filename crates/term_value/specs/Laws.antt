@@ -1,15 +1,18 @@
 -- Laws of encoding and decoding, of local states, of orders, of reports and of the order of terms.
-use Rattle.std.specs.Prelude.{◌≡◌, ℕ, ℤ, pos, ◌<◌, ◌≤◌, Bool, List, [], ◌∷◌, ◌++◌, codes, Some}
+use Rattle.std.specs.Prelude.{◌≡◌, ℕ, ℤ, pos, ◌<◌, ◌≤◌, Bool, List, [], ◌∷◌, ◌++◌, codes, IsTrue, Some, None}
 use Rattle.std.specs.Cmp.{IsTotalOrder}
 use Rattle.std.specs.declared.cmp.Ordering.TheVariants.{Equal}
 use Rattle.bits_value.specs.Number.{spell, InBits, bounded}
 use Rattle.bits_value.specs.declared.Sign.{Sign}
+use Rattle.bits_value.specs.Utf.{is_character}
+use Rattle.bits_value.specs.declared.UtfKind.{UtfKind}
 use Rattle.bits_value.specs.declared.Endian.{Endian}
 use Rattle.term_value.specs.Value.{Value, VInt, VAtom, VPid, VTuple, VList, VBits, Values, none, more}
 use Rattle.term_value.specs.Order.{order}
 use Rattle.term_value.specs.Bounds.{bit_bound}
 use Rattle.term_value.specs.Setting.{Setting}
-use Rattle.term_value.specs.Segment.{Typed, Integer, Written}
+use Rattle.term_value.specs.Segment.{Typed, Integer, Character, Written, Spelled}
+use Rattle.term_value.specs.Characters.{spelling}
 use Rattle.term_value.specs.Encode.{Bits, encoded}
 use Rattle.term_value.specs.Decode.{Cut, taken}
 use Rattle.term_value.specs.Tree.{Variable, Val, and, end, Module}
@@ -47,6 +50,16 @@ IntegerReadsBack = (s : Setting) (sign : Sign) (endian : Endian) (n : ℕ) (v : 
     → n ≤ bit_bound → InBits sign n v → bounded v ≡ Some v
     → (encoded (integer_segment sign endian) (VInt v) (Some (VInt (pos n))) ≡ Bits (spell n v endian))
     × (taken s (integer_segment sign endian) (Variable x) (and (Val (VInt (pos n))) end) [] (spell n v endian ++ rest) ≡ Cut (record { variable = x; value = VInt v } ∷ []) rest)
+
+-- a character segment
+abbrev pub character_segment : UtfKind → Endian → Typed
+character_segment utf endian = record { kind = Character utf endian; size = Spelled }
+
+-- A character is encoded as its spelling, and read back from it into a variable, whatever bits follow.
+abbrev pub CharacterReadsBack : Type 0
+CharacterReadsBack = (s : Setting) (utf : UtfKind) (endian : Endian) (c x : ℕ) (rest : List Bool) → IsTrue (is_character c)
+    → (encoded (character_segment utf endian) (VInt (pos c)) None ≡ Bits (spelling utf endian c))
+    × (taken s (character_segment utf endian) (Variable x) end [] (spelling utf endian c ++ rest) ≡ Cut (record { variable = x; value = VInt (pos c) } ∷ []) rest)
 
 -- the report of what a machine came to in an order is the machine's report
 abbrev pub OutcomeReports : Type 0

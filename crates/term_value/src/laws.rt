@@ -1,9 +1,14 @@
 //! Laws of encoding and decoding, of local states, of orders, of reports and of the order of terms, each the contract of a call.
-ghost use Rattle.term_value.specs.Laws.{CompleteIsLast, EachAsks, EntryIsLine, EqualIsSame, IntegerReadsBack, OneOrder, OrderIsTotal, OutcomeReports};
+ghost use Rattle.term_value.specs.Laws.{CharacterReadsBack, CompleteIsLast, EachAsks, EntryIsLine, EqualIsSame, IntegerReadsBack, OneOrder, OrderIsTotal, OutcomeReports};
 
 /// An integer within its bits and the bound is read back from its encoding, whatever bits follow.
 pub fn integer_reads_back()
     ensures { IntegerReadsBack }
+{}
+
+/// A character is read back from its encoding, whatever bits follow.
+pub fn character_reads_back()
+    ensures { CharacterReadsBack }
 {}
 
 /// Each local state of a process has a next ask.
