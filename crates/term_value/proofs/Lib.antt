@@ -1,4 +1,5 @@
 pub mod Bitwise
+pub mod Bounded
 pub mod Shifts
 pub mod WorkedRows
 pub mod Values

@@ -1,27 +1,27 @@
 -- A character's spelling in front of bits is read back.
-use Rattle.std.proofs.Common.{◌≡◌, ◌⊎◌, inl, inr, ℕ, zero, suc, ◌+◌, ◌-◌, ◌*◌, ◌/◌, ◌%◌, ◌^◌, ◌<◌, ◌≤◌, Bool, true, false, IsTrue, List, [], ◌∷◌, ◌++◌, length, map, take, drop, Option, Some, None, pos, refl, ap, sym, ◌∙◌, arith, append-nil, append_assoc, subst, length-append}
+use Rattle.std.proofs.Common.{◌≡◌, ◌⊎◌, inl, inr, ℕ, ◌+◌, ◌-◌, ◌*◌, ◌/◌, ◌%◌, ◌^◌, ◌<◌, ◌≤◌, Bool, true, false, IsTrue, List, [], ◌∷◌, ◌++◌, length, map, take, drop, Option, Some, None, pos, refl, ap, sym, ◌∙◌, arith, append_assoc, subst}
 use Rattle.std.specs.Prelude.{cond, ◌&&◌, nat_lt, is_some}
-use Rattle.std.specs.List.{flat_map, range_with_len}
+use Rattle.std.specs.List.{range_with_len}
 use Rattle.std.proofs.lemmas.Bool.{cases_lt, lt-ltb, le-ltb}
 use Rattle.std.proofs.lemmas.Bool.Decides.{nat_tests}
-use Rattle.std.proofs.lemmas.List.{take_at, drop_at}
+use Rattle.std.proofs.lemmas.List.{drop_at}
 use Rattle.bits_value.specs.Bits.{bit_of, bit_in, bit_list, all_bits}
 use Rattle.term_value.specs.Value.{VInt}
 use Rattle.term_value.specs.Tree.{Variable}
 use Rattle.term_value.specs.Encode.{where_fits}
 use Rattle.term_value.specs.Decode.{Cut, bind_where, number_taken, character_taken}
-use Rattle.bits_value.specs.Number.{bounded, natural, big_bits, greatest_first, reordered, reversed_groups}
+use Rattle.bits_value.specs.Number.{bounded, natural, big_bits, reordered}
 use Rattle.bits_value.specs.Utf.{is_character, utf8_bytes, unit_bytes, utf16_bytes, utf_bytes, Begins}
 use Rattle.bits_value.specs.declared.UtfKind.{UtfKind}
 use Rattle.bits_value.specs.declared.UtfKind.TheVariants.{Utf8, Utf16, Utf32}
 use Rattle.bits_value.specs.declared.Endian.{Endian}
 use Rattle.bits_value.specs.declared.Endian.TheVariants.{Big, Little}
-use Rattle.bits_value.proofs.BitLists.{natural-down, natural-append, natural-big_bits}
+use Rattle.bits_value.proofs.BitLists.{natural-down, natural-append}
 use Rattle.bits_value.proofs.Copied.{all_bits-append}
-use Rattle.utf_segments.proofs.Candidates.{character-ranges, character-lt}
+use Rattle.utf_segments.proofs.Candidates.{character-lt}
 use Rattle.utf_segments.proofs.Fronts.{alone}
 use Rattle.term_value.specs.Laws.{CharacterReadsBack}
-use Rattle.term_value.specs.Characters.{bits_of_bytes, spelling, first_unit, second_unit, candidates, same_bit, begins_with, first_where, first_spelled, character_of}
+use Rattle.term_value.specs.Characters.{bits_of_bytes, spelling, first_unit, second_unit, candidates, begins_with, first_where, first_spelled}
 
 -- ---- The bits of bytes
 
@@ -214,8 +214,8 @@ module _ (a b c d : ℕ) (r : List Bool) where
   of_four =
       append_assoc (big_bits 8 a) (big_bits 8 b ++ (big_bits 8 c ++ (big_bits 8 d ++ []))) r
       ∙ ap (λ l. big_bits 8 a ++ l) (
-        append_assoc (big_bits 8 b) (big_bits 8 c ++ (big_bits 8 d ++ [])) r
-        ∙ ap (λ l. big_bits 8 b ++ l) (append_assoc (big_bits 8 c) (big_bits 8 d ++ []) r ∙ ap (λ l. big_bits 8 c ++ l) (append_assoc (big_bits 8 d) [] r)))
+      append_assoc (big_bits 8 b) (big_bits 8 c ++ (big_bits 8 d ++ [])) r
+      ∙ ap (λ l. big_bits 8 b ++ l) (append_assoc (big_bits 8 c) (big_bits 8 d ++ []) r ∙ ap (λ l. big_bits 8 c ++ l) (append_assoc (big_bits 8 d) [] r)))
 
 -- ---- The character is among the candidates
 
@@ -297,7 +297,7 @@ among-utf16 endian c rest h = elim (cases_lt c 0x1_0000) [
       let u : ℕ = 0xD800 + (c - 0x1_0000) / 0x400 in
       let v : ℕ = 0xDC00 + (c - 0x1_0000) % 0x400 in
       let shape : spelling Utf16 endian c ++ rest ≡ bits_of_bytes (unit_bytes endian u) ++ (bits_of_bytes (unit_bytes endian v) ++ rest) =
-          ap (λ l. bits_of_bytes l ++ rest) (utf16-two endian c b) ∙ joined_bits (unit_bytes endian u) (unit_bytes endian v) rest in
+      ap (λ l. bits_of_bytes l ++ rest) (utf16-two endian c b) ∙ joined_bits (unit_bytes endian u) (unit_bytes endian v) rest in
       let e : first_unit endian (spelling Utf16 endian c ++ rest) ≡ u = ap (first_unit endian) shape ∙ first_is endian u (bits_of_bytes (unit_bytes endian v) ++ rest) (omega arith) in
       let f : second_unit endian (spelling Utf16 endian c ++ rest) ≡ v = ap (second_unit endian) shape ∙ second_is endian u v rest (omega arith) in
       let g : 0x1_0000 + u % 0x400 * 0x400 + v % 0x400 ≡ c = omega arith in
@@ -308,11 +308,11 @@ among-utf16 endian c rest h = elim (cases_lt c 0x1_0000) [
 
 among-utf32 : (endian : Endian) (c : ℕ) (rest : List Bool) → c < 0x11_0000 → Among c (candidates Utf32 endian (spelling Utf32 endian c ++ rest))
 among-utf32 Big c rest h = inl (
-  ap (λ l. natural (take 32 l)) (of_four (c / 0x100_0000) (c / 0x1_0000 % 0x100) (c / 0x100 % 0x100) (c % 0x100) rest)
-  ∙ word_big (c / 0x100_0000) (c / 0x1_0000 % 0x100) (c / 0x100 % 0x100) (c % 0x100) rest ∙ omega arith)
+    ap (λ l. natural (take 32 l)) (of_four (c / 0x100_0000) (c / 0x1_0000 % 0x100) (c / 0x100 % 0x100) (c % 0x100) rest)
+    ∙ word_big (c / 0x100_0000) (c / 0x1_0000 % 0x100) (c / 0x100 % 0x100) (c % 0x100) rest ∙ omega arith)
 among-utf32 Little c rest h = inl (
-  ap (λ l. natural (reordered (take 32 l))) (of_four (c % 0x100) (c / 0x100 % 0x100) (c / 0x1_0000 % 0x100) (c / 0x100_0000) rest)
-  ∙ word_little (c % 0x100) (c / 0x100 % 0x100) (c / 0x1_0000 % 0x100) (c / 0x100_0000) rest ∙ omega arith)
+    ap (λ l. natural (reordered (take 32 l))) (of_four (c % 0x100) (c / 0x100 % 0x100) (c / 0x1_0000 % 0x100) (c / 0x100_0000) rest)
+    ∙ word_little (c % 0x100) (c / 0x100 % 0x100) (c / 0x1_0000 % 0x100) (c / 0x100_0000) rest ∙ omega arith)
 
 among : (utf : UtfKind) (endian : Endian) (c : ℕ) (rest : List Bool) → c < 0x11_0000 → Among c (candidates utf endian (spelling utf endian c ++ rest))
 among Utf8 endian c rest h = among-utf8 endian c rest h
@@ -330,6 +330,6 @@ pub character_reads_back : CharacterReadsBack
 character_reads_back s utf endian c x rest is = (
   ap (λ b. where_fits b (spelling utf endian c)) is,
   ap (λ o. character_taken s utf endian (Variable x) o [] (spelling utf endian c ++ rest)) (found utf endian c rest is (candidates utf endian (spelling utf endian c ++ rest)) (among utf endian c rest (character-lt c is)))
-  ∙ ap (λ l. number_taken s (Variable x) (pos c) [] l) (drop_at (spelling utf endian c) rest (length (spelling utf endian c)) refl)
-  ∙ binds c x rest (character-lt c is),
+      ∙ ap (λ l. number_taken s (Variable x) (pos c) [] l) (drop_at (spelling utf endian c) rest (length (spelling utf endian c)) refl)
+      ∙ binds c x rest (character-lt c is),
 )

@@ -1,5 +1,5 @@
 -- Laws of encoding and decoding, of local states, of orders, of reports and of the order of terms.
-use Rattle.std.specs.Prelude.{◌≡◌, ℕ, ℤ, pos, ◌<◌, ◌≤◌, Bool, List, [], ◌∷◌, ◌++◌, codes, IsTrue, Some, None}
+use Rattle.std.specs.Prelude.{◌≡◌, ℕ, ℤ, pos, ◌+◌, ◌*◌, ◌<◌, ◌≤◌, Bool, length, List, [], ◌∷◌, ◌++◌, codes, IsTrue, Some, None}
 use Rattle.std.specs.Cmp.{IsTotalOrder}
 use Rattle.std.specs.declared.cmp.Ordering.TheVariants.{Equal}
 use Rattle.bits_value.specs.Number.{spell, InBits, bounded}
@@ -17,7 +17,7 @@ use Rattle.term_value.specs.Encode.{Bits, encoded}
 use Rattle.term_value.specs.Decode.{Cut, taken}
 use Rattle.term_value.specs.Tree.{Variable, Val, and, end, Module}
 use Rattle.term_value.specs.Local.{Local, Outcome, Wants, WantsMore, EndsDone, EndsRaised, Unfinished, ask_of}
-use Rattle.term_value.specs.Machine.{Machine, Legal, IsComplete, after}
+use Rattle.term_value.specs.Machine.{Machine, Legal, IsLegal, IsComplete, after, process_bound, start_of}
 use Rattle.term_value.specs.Orders.{Spells, IsInRange, HasNoLineFeed, entry_text}
 use Rattle.term_value.specs.Outcomes.{IsOutcome, outcome_text}
 use Rattle.term_value.specs.Reports.{report}
@@ -38,6 +38,10 @@ EachAsks = (code : Module) (l : Local) → Finished (ask_of code l)
 -- no entry is legal after a complete order
 abbrev pub CompleteIsLast : Type 0
 CompleteIsLast = (m : Machine) (entries : List Entry) (entry : Entry) → IsComplete m entries → Legal (after m entries) entry → ⊥
+
+-- a legal order has at most so many entries as the reductions allow: each process ends and is gone once, and may find that no more may be started
+abbrev pub LegalIsShort : Type 0
+LegalIsShort = (code : Module) (reductions : ℕ) (entries : List Entry) → IsLegal (start_of code reductions) entries → length entries ≤ process_bound * (reductions + 3)
 
 -- an integer segment with a size in bits
 abbrev pub integer_segment : Sign → Endian → Typed

@@ -1,5 +1,5 @@
 //! Laws of encoding and decoding, of local states, of orders, of reports and of the order of terms, each the contract of a call.
-ghost use Rattle.term_value.specs.Laws.{CharacterReadsBack, CompleteIsLast, EachAsks, EntryIsLine, EqualIsSame, IntegerReadsBack, OneOrder, OrderIsTotal, OutcomeReports};
+ghost use Rattle.term_value.specs.Laws.{CharacterReadsBack, CompleteIsLast, EachAsks, EntryIsLine, EqualIsSame, IntegerReadsBack, LegalIsShort, OneOrder, OrderIsTotal, OutcomeReports};
 
 /// An integer within its bits and the bound is read back from its encoding, whatever bits follow.
 pub fn integer_reads_back()
@@ -19,6 +19,11 @@ pub fn each_asks()
 /// No entry is legal after a complete order.
 pub fn complete_is_last()
     ensures { CompleteIsLast }
+{}
+
+/// A legal order has at most so many entries as the reductions allow.
+pub fn legal_is_short()
+    ensures { LegalIsShort }
 {}
 
 /// The text of an outcome is the report of the machine that came to it.
