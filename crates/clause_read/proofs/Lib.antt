@@ -12,7 +12,9 @@ pub mod Calls
 pub mod Depths
 pub mod Exits
 pub mod Groups
+pub mod Interning
 pub mod Levels
+pub mod Numbers
 pub mod Operands
 pub mod Passing
 pub mod PatLists

@@ -1,5 +1,5 @@
 -- The words of a text: its tokens with what they stand for.
-use Rattle.std.specs.Prelude.{◌≡◌, ℕ, ◌+◌, ◌<◌, ◌≤◌, ◌^◌, length, List, ◌∷◌, [], drop, map}
+use Rattle.std.specs.Prelude.{◌≡◌, ℕ, ◌+◌, ◌<◌, ◌≤◌, ◌^◌, length, List, ◌∷◌, drop, map}
 use Rattle.erl_syntax.specs.Word.{Word}
 use Rattle.erl_syntax.specs.Tokens.{token_text}
 pub use Rattle.erl_syntax.specs.Reading.{characters_of}

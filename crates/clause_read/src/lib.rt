@@ -2,6 +2,7 @@
 #![tactic(auto)]
 
 pub mod fault;
+pub mod numbering;
 mod operators;
 mod pattern_leaves;
 mod pattern_segments;
