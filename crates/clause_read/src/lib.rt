@@ -7,6 +7,8 @@ mod operators;
 mod pattern_leaves;
 mod pattern_segments;
 mod pattern_starts;
+#[cfg(test)]
+mod pattern_tests;
 pub mod patterns;
 pub mod placed;
 pub mod segment_types;
