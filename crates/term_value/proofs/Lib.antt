@@ -14,6 +14,7 @@ pub mod Within
 pub mod Compared
 pub mod Joined
 pub mod Outcomes
+pub mod NameOrder
 pub mod OrderLines
 pub mod Ordered
 pub mod ReadsBack

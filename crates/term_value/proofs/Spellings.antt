@@ -219,16 +219,16 @@ module _ (a b c d : ℕ) (r : List Bool) where
 
 -- ---- The character is among the candidates
 
-utf8-one : (c : ℕ) → c < 0x80 → utf8_bytes c ≡ c ∷ []
+pub utf8-one : (c : ℕ) → c < 0x80 → utf8_bytes c ≡ c ∷ []
 utf8-one c h = grind (arith, nat_tests)
 
-utf8-two : (c : ℕ) → 0x80 ≤ c → c < 0x800 → utf8_bytes c ≡ (0xC0 + c / 0x40) ∷ (0x80 + c % 0x40) ∷ []
+pub utf8-two : (c : ℕ) → 0x80 ≤ c → c < 0x800 → utf8_bytes c ≡ (0xC0 + c / 0x40) ∷ (0x80 + c % 0x40) ∷ []
 utf8-two c g h = grind (arith, nat_tests)
 
-utf8-three : (c : ℕ) → 0x800 ≤ c → c < 0x1_0000 → utf8_bytes c ≡ (0xE0 + c / 0x1000) ∷ (0x80 + c / 0x40 % 0x40) ∷ (0x80 + c % 0x40) ∷ []
+pub utf8-three : (c : ℕ) → 0x800 ≤ c → c < 0x1_0000 → utf8_bytes c ≡ (0xE0 + c / 0x1000) ∷ (0x80 + c / 0x40 % 0x40) ∷ (0x80 + c % 0x40) ∷ []
 utf8-three c g h = grind (arith, nat_tests)
 
-utf8-four : (c : ℕ) → 0x1_0000 ≤ c → utf8_bytes c ≡ (0xF0 + c / 0x4_0000) ∷ (0x80 + c / 0x1000 % 0x40) ∷ (0x80 + c / 0x40 % 0x40) ∷ (0x80 + c % 0x40) ∷ []
+pub utf8-four : (c : ℕ) → 0x1_0000 ≤ c → utf8_bytes c ≡ (0xF0 + c / 0x4_0000) ∷ (0x80 + c / 0x1000 % 0x40) ∷ (0x80 + c / 0x40 % 0x40) ∷ (0x80 + c % 0x40) ∷ []
 utf8-four c g = grind (arith, nat_tests)
 
 module _ (endian : Endian) (c : ℕ) (rest : List Bool) where

@@ -1,5 +1,5 @@
 //! Laws of encoding and decoding, of local states, of orders, of reports and of the order of terms, each the contract of a call.
-ghost use Rattle.term_value.specs.Laws.{CharacterReadsBack, CompleteIsLast, EachAsks, EntryIsLine, EqualIsSame, IntegerReadsBack, LegalIsShort, OneOrder, OrderIsTotal, OutcomeReports};
+ghost use Rattle.term_value.specs.Laws.{CharacterReadsBack, CompleteIsLast, EachAsks, EntryIsLine, EqualIsSame, IntegerReadsBack, LegalIsShort, NamesByCharacters, OneOrder, OrderIsTotal, OutcomeReports};
 
 /// An integer within its bits and the bound is read back from its encoding, whatever bits follow.
 pub fn integer_reads_back()
@@ -39,6 +39,11 @@ pub fn order_is_total()
 /// Equal values over a table of atoms, each with a name of its own, are the same.
 pub fn equal_is_same()
     ensures { EqualIsSame }
+{}
+
+/// The order of names by their bytes in UTF-8 is that by their characters' numbers.
+pub fn names_by_characters()
+    ensures { NamesByCharacters }
 {}
 
 /// A text spells at most one order.

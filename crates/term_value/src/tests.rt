@@ -2,8 +2,8 @@ ghost use Rattle.std.specs.Prelude.{◌≡◌, ◌≤◌, ◌*◌, ◌<◌, leng
 
 use crate::{
     Arith, Items, Look, Term, arith, character_reads_back, compare, complete_is_last, depth,
-    each_asks, entry_is_line, equal_is_same, integer_reads_back, legal_is_short, one_order,
-    order_is_total, outcome_reports, show, weight,
+    each_asks, entry_is_line, equal_is_same, integer_reads_back, legal_is_short,
+    names_by_characters, one_order, order_is_total, outcome_reports, show, weight,
 };
 use bits_value::{Bits, Frozen};
 use erl_syntax::{Listed, Op, Text};
@@ -229,6 +229,7 @@ fn laws_are_calls() {
     complete_is_last();
     order_is_total();
     equal_is_same();
+    names_by_characters();
     one_order();
     entry_is_line();
     outcome_reports();
