@@ -11,6 +11,11 @@ mod lists;
 pub mod numbering;
 mod operand;
 mod operators;
+mod pattern_leaves;
+mod pattern_segments;
+mod pattern_starts;
+#[cfg(test)]
+mod pattern_tests;
 pub mod patterns;
 pub mod placed;
 mod quals;

@@ -14,6 +14,7 @@ pub mod Match
 pub mod Operators
 pub mod Orders
 pub mod Order
+pub mod Outcomes
 pub mod Primitives
 pub mod PutIn
 pub mod Read
