@@ -11,6 +11,7 @@ use erl_syntax::{Alt, Branch, Guard, Listed, TokenKind};
 use std::alloc::Global;
 
 /// The clauses of `case` and `receive`, up to `end`.
+#[cycle(expr)]
 pub fn alts(
     alloc: Global,
     source: &Source,
@@ -43,6 +44,7 @@ pub fn alts(
 }
 
 /// A clause of `case` or `receive`.
+#[cycle(expr)]
 pub fn alt(
     alloc: Global,
     source: &Source,
@@ -71,6 +73,7 @@ pub fn alt(
 }
 
 /// The clauses of `if`, up to `end`.
+#[cycle(expr)]
 pub fn branches(
     alloc: Global,
     source: &Source,
@@ -103,6 +106,7 @@ pub fn branches(
 }
 
 /// A clause of `if`.
+#[cycle(expr)]
 pub fn branch(
     alloc: Global,
     source: &Source,

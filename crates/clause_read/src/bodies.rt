@@ -12,6 +12,7 @@ use erl_syntax::{Expr, Guard, Item, Listed, TokenKind};
 use std::alloc::Global;
 
 /// A guard, if there is one, and the arrow.
+#[cycle(expr)]
 pub fn guarded(
     alloc: Global,
     source: &Source,
@@ -41,6 +42,7 @@ pub fn guarded(
 }
 
 /// The alternatives of a guard, and the arrow.
+#[cycle(expr)]
 pub fn tests(
     alloc: Global,
     source: &Source,
@@ -88,6 +90,7 @@ pub fn tests(
 }
 
 /// The items of a body.
+#[cycle(expr)]
 pub fn body(
     alloc: Global,
     source: &Source,

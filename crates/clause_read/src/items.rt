@@ -14,6 +14,7 @@ use erl_syntax::{Item, Listed, Pattern, TokenKind};
 use std::alloc::Global;
 
 /// An item of a body: patterns, each with `=`, and an expression.
+#[cycle(expr)]
 pub fn item(
     alloc: Global,
     source: &Source,

@@ -15,6 +15,7 @@ use erl_syntax::{Expr, Listed, Span, TokenKind};
 use std::alloc::Global;
 
 /// A list or a list comprehension, behind `[`.
+#[cycle(expr)]
 pub fn list(
     alloc: Global,
     source: &Source,
@@ -49,6 +50,7 @@ pub fn list(
 }
 
 /// A list or a list comprehension, behind its first item.
+#[cycle(expr)]
 fn after_first(
     alloc: Global,
     source: &Source,
@@ -90,6 +92,7 @@ fn after_first(
 }
 
 /// A list behind its first item: more items and the tail, up to `]`.
+#[cycle(expr)]
 fn list_items(
     alloc: Global,
     source: &Source,
@@ -143,6 +146,7 @@ fn list_items(
 }
 
 /// The tail of a list and `]`.
+#[cycle(expr)]
 fn last(
     alloc: Global,
     source: &Source,

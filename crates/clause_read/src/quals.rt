@@ -16,6 +16,7 @@ use erl_syntax::{Listed, Pattern, Qual, Segment, Span, TokenKind};
 use std::alloc::Global;
 
 /// Qualifiers up to a closing bracket.
+#[cycle(expr)]
 pub fn quals(
     alloc: Global,
     source: &Source,
@@ -51,6 +52,7 @@ pub fn quals(
 }
 
 /// A qualifier: a generator or a filter.
+#[cycle(expr)]
 pub fn qual(
     alloc: Global,
     source: &Source,

@@ -82,6 +82,7 @@ fn simple_cause(source: &Source, at: usize) -> Cause
 }
 
 /// A bit expression or a bit string comprehension, behind `<<`.
+#[cycle(expr)]
 pub fn bits(
     alloc: Global,
     source: &Source,
@@ -137,6 +138,7 @@ pub fn bits(
 }
 
 /// A bit expression or a bit string comprehension, behind its first value.
+#[cycle(expr)]
 fn after_value(
     alloc: Global,
     source: &Source,
@@ -194,6 +196,7 @@ fn after_value(
 }
 
 /// A bit expression, behind its first segment.
+#[cycle(expr)]
 fn more_segments(
     alloc: Global,
     source: &Source,
@@ -249,6 +252,7 @@ fn more_segments(
 }
 
 /// A segment of a bit expression.
+#[cycle(expr)]
 pub fn segment(
     alloc: Global,
     source: &Source,
@@ -275,6 +279,7 @@ pub fn segment(
 }
 
 /// A segment that begins with an operator.
+#[cycle(expr)]
 fn prefixed(
     alloc: Global,
     source: &Source,
@@ -306,6 +311,7 @@ fn prefixed(
 }
 
 /// A segment's value or size.
+#[cycle(expr)]
 pub fn simple(
     alloc: Global,
     source: &Source,
@@ -342,6 +348,7 @@ pub fn simple(
 }
 
 /// A segment, behind its value.
+#[cycle(expr)]
 pub fn segment_rest(
     alloc: Global,
     source: &Source,
