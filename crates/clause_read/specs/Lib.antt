@@ -1,9 +1,1 @@
 pub mod Numbering
-pub mod Reading
-pub mod Settings
-pub mod Source
-pub mod Wanted
-pub mod WantedExprs
-pub mod WantedPatterns
-pub mod WantedItems
-pub mod WantedSegments
