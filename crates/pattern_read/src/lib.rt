@@ -4,9 +4,9 @@
 
 pub mod fault;
 pub mod operators;
-pub mod pattern_leaves;
+mod pattern_leaves;
 pub mod pattern_segments;
-pub mod pattern_starts;
+mod pattern_starts;
 #[cfg(test)]
 mod pattern_tests;
 pub mod patterns;

@@ -4,12 +4,12 @@ use Rattle.body_read.proofs.BodiedBegins.{exprs_first_in, not_size}
 use Rattle.body_read.proofs.BodiedExits.{alts_err, case_parts_ok, common_at_end, common_bits_deep, common_bits_err, common_bits_ok, common_close, common_close_err, common_inner_err, common_paren_deep, last_block, literal_low, of_err, operand_at_end, operand_block_deep, operand_case_err, operand_case_ok, operand_common, operand_if_err, operand_if_ok, operand_list_deep, operand_list_err, operand_list_ok, operand_receive_err, operand_receive_ok, operand_tuple_deep, operand_tuple_err, operand_tuple_ok, value_err}
 use Rattle.body_read.proofs.BodiedLevels.{alone_in, left_ok, operator_deep, operator_err, right_ok}
 use Rattle.body_read.proofs.BodyExits.{body_begin, body_end, body_err, body_more}
-use Rattle.body_read.proofs.ClauseExits.{alt_body_err, alt_guard_err, alt_ok, alt_pattern_err, alts_begin, alts_end, alts_err, alts_more, alts_other, branch_body_err, branch_ok, branch_tests_err, branches_begin, branches_end, branches_err, branches_more, branches_other}
+use Rattle.body_read.proofs.ClauseExits.{alt_body_err, alt_guard_err, alt_ok, alt_pattern_err, alts_begin, alts_end, alts_err as clauses_err, alts_more, alts_other, branch_body_err, branch_ok, branch_tests_err, branches_begin, branches_end, branches_err, branches_more, branches_other}
 use Rattle.pattern_read.proofs.Exits.{atom_alone, atom_call, atom_deep, atom_err, exprs_begin, exprs_empty, exprs_end, exprs_err, exprs_more, exprs_other, level_first, level_operand, level_tail, level_whole, operand_atom_err, operand_atom_ok, operand_macro_err, operand_macro_ok, operand_no_module, operand_prefix_deep, operand_prefix_err, operand_prefix_ok, qualified_alone, qualified_deep, qualified_err, qualified_no_name, qualified_no_open, qualified_ok}
 use Rattle.body_read.proofs.GuardExits.{TestsBegun, guarded_err, guarded_none, guarded_ok, guarded_other, tests_begin, tests_comma, tests_end, tests_err, tests_first_err, tests_more, tests_other, tests_semicolon}
 use Rattle.body_read.proofs.ItemExits.{item_end, item_err, item_start, item_turn, read_bounded, read_further}
 use Rattle.body_read.proofs.ListExits.{items_begin, items_end, items_err, items_next, items_other, items_tail_err, items_tail_ok, last_close_err, last_err, last_ok, list_deep, list_empty_ok, list_first_err, list_first_then, list_row_err, list_row_ok}
-use Rattle.body_read.proofs.QualExits.{bits_err, bits_ok, items_err, items_ok, opens_at}
+use Rattle.body_read.proofs.QualExits.{bits_err, bits_ok, items_err as generator_err, items_ok, opens_at}
 use Rattle.body_read.proofs.QualLists.{ends, qual_full_at, quals_begin, quals_end, quals_err, quals_more, quals_other}
 use Rattle.body_read.proofs.SegmentExits.{prefixed_err, prefixed_then, segment_deep, segment_signed, segment_then, segment_value_err, simple_at_end, simple_atom_ok, simple_common, size_err, sized_err, sized_ok, unsized_err, unsized_ok}
 use Rattle.body_read.specs.WantedExprs.{in_body, in_guard, in_setting}
@@ -410,7 +410,7 @@ pub alternatives::alts-loop-alts-init : goal.alternatives::alts-loop-alts-init
 alternatives::alts-loop-alts-init t c = (omega arith, c.requires.place, omega arith, alts_begin (in_body c.args.deep c.args.brackets) c.args.source.now c.args.at c.new-alts.result.items c.new-alts.ensures.items)
 
 pub alternatives::alts-returns-in_err-read-clause-reads : goal.alternatives::alts-returns-in_err-read-clause-reads
-alternatives::alts-returns-in_err-read-clause-reads t c = let p = err_from_is_err_and c.from_residual.result c.from_residual.ensures.1 in rw (p.1, p.2) (alts_err (in_body c.args.deep c.args.brackets) c.args.source.now c.args.at c.loop-alts.next c.loop-alts.alts.items c.loop-alts.height _ c.loop-alts.invariant.3 c.in_err-read.ensures.reads)
+alternatives::alts-returns-in_err-read-clause-reads t c = let p = err_from_is_err_and c.from_residual.result c.from_residual.ensures.1 in rw (p.1, p.2) (clauses_err (in_body c.args.deep c.args.brackets) c.args.source.now c.args.at c.loop-alts.next c.loop-alts.alts.items c.loop-alts.height _ c.loop-alts.invariant.3 c.in_err-read.ensures.reads)
 
 pub alternatives::alts-returns-then-is-clause-reads : goal.alternatives::alts-returns-then-is-clause-reads
 alternatives::alts-returns-then-is-clause-reads t c = alts_end (in_body c.args.deep c.args.brackets) c.args.source.now c.args.at c.loop-alts.next c.in_ok-read.after c.loop-alts.alts.items c.of.result c.loop-alts.height c.higher-height.result c.in_ok-read.read c.in_ok-read.tall c.loop-alts.invariant.3 c.in_ok-read.ensures.reads (c.is.ensures.yes (search rules)) (c.of.ensures ∙ c.in_ok-push.ensures.items) c.higher-height.ensures
@@ -491,7 +491,7 @@ pub items::item-returns-in-Err-clause-bounded : goal.items::item-returns-in-Err-
 items::item-returns-in-Err-clause-bounded t c = let m = read_bounded c.args.deep c.level-read.result _ c.in_ok-value-in-Err.ensures.kept c.level-read.ensures.bounded in (omega (arith, c.higher-height-in-Err.ensures, m.0), omega (arith, c.higher-height-in-Err.ensures, m.1, c.loop-pattern.invariant.2))
 
 pub quals::qual-returns-in_err-list-in-Ok-clause-reads : goal.quals::qual-returns-in_err-list-in-Ok-clause-reads
-quals::qual-returns-in_err-list-in-Ok-clause-reads t c = let p = err_from_is_err_and c.from_residual.result c.from_residual.ensures.1 in rw (p.1, p.2) (items_err (in_body c.args.deep c.args.brackets) c.args.source.now c.args.at c.in-Ok.after c.in-Ok.first _ c.in-Ok.ensures.reads c.in_err-list-in-Ok.ensures.reads)
+quals::qual-returns-in_err-list-in-Ok-clause-reads t c = let p = err_from_is_err_and c.from_residual.result c.from_residual.ensures.1 in rw (p.1, p.2) (generator_err (in_body c.args.deep c.args.brackets) c.args.source.now c.args.at c.in-Ok.after c.in-Ok.first _ c.in-Ok.ensures.reads c.in_err-list-in-Ok.ensures.reads)
 
 pub quals::qual-returns-in-Ok-clause-reads : goal.quals::qual-returns-in-Ok-clause-reads
 quals::qual-returns-in-Ok-clause-reads t c = items_ok (in_body c.args.deep c.args.brackets) c.args.source.now c.args.at c.in-Ok.after c.in_ok-list-in-Ok.next c.higher-height.result c.in-Ok.first c.in_ok-list-in-Ok.list c.in-Ok.ensures.reads c.in_ok-list-in-Ok.ensures.reads c.higher-height.ensures
