@@ -469,14 +469,15 @@ items::item-loop-pattern-init t c = (omega arith, c.requires.place, omega arith,
 pub items::item-matched-requires-clause-place : goal.items::item-matched-requires-clause-place
 items::item-matched-requires-clause-place t c = c.loop-pattern.invariant.1
 
+pub items::item-level-read-requires : goal.items::item-level-read-requires
+items::item-level-read-requires t c = (omega (arith, c.loop-pattern.invariant.0, c.decreases), (c.loop-pattern.invariant.1, (c.requires.tree, (c.requires.bracket, omega arith))))
+
 pub items::item-loop-pattern-smaller : goal.items::item-loop-pattern-smaller
 items::item-loop-pattern-smaller t c = omega (arith, c.loop-pattern.invariant.1, c.in-Ok.ensures.further.0, c.in-Ok.ensures.further.1)
 
 pub items::item-loop-pattern-preserved : goal.items::item-loop-pattern-preserved
 items::item-loop-pattern-preserved t c = (omega (arith, c.loop-pattern.invariant.0, c.in-Ok.ensures.further.0), c.in-Ok.ensures.further.1, omega (arith, c.in-Ok.ensures.bounded.1, c.loop-pattern.invariant.2, c.higher-height.ensures), item_turn (in_body c.args.deep c.args.brackets) c.args.source.now c.args.at c.loop-pattern.next c.in-Ok.after c.loop-pattern.patterns.items _ c.loop-pattern.height c.higher-height.result c.in-Ok.pattern c.loop-pattern.invariant.3 c.in-Ok.ensures.reads c.in_ok-push-in-Ok.ensures.items c.higher-height.ensures)
 
-pub items::item-level-read-requires-clause-place : goal.items::item-level-read-requires-clause-place
-items::item-level-read-requires-clause-place t c = c.loop-pattern.invariant.1
 
 pub items::item-returns-in_err-value-in-Err-clause-reads : goal.items::item-returns-in_err-value-in-Err-clause-reads
 items::item-returns-in_err-value-in-Err-clause-reads t c = let p = err_from_is_err_and c.from_residual-in_err-value-in-Err.result c.from_residual-in_err-value-in-Err.ensures.1 in rw (p.1, p.2) (item_err (in_body c.args.deep c.args.brackets) c.args.source.now c.args.at c.loop-pattern.next c.loop-pattern.patterns.items c.loop-pattern.height _ c.loop-pattern.invariant.3 (c.in_err-value-in-Err.ensures.reads (in_body c.args.deep c.args.brackets) c.in-Err.ensures.reads c.level-read.ensures.reads))
