@@ -1,5 +1,5 @@
 -- The value of an integer with a sign before it.
-use Rattle.std.proofs.Common.{◌≡◌, ℕ, zero, suc, ℤ, ◌<◌, ◌^◌, ◌⊎◌, inl, inr, sym, ap, subst, ◌∙◌, ◌-ℤ◌, pos, to_z, of_z, arith}
+use Rattle.std.proofs.Common.{◌≡◌, ℕ, zero, suc, ℤ, ◌<◌, ◌^◌, ◌⊎◌, inl, inr, ap, ◌∙◌, ◌-ℤ◌, pos, to_z, of_z, arith}
 use Rattle.std.proofs.Math.Facts.{to_z-of_z}
 use Rattle.std.proofs.Math.IntN.{negsuc, +ℤ_idl}
 use mir.Syntax.{w128}

@@ -1,5 +1,5 @@
 -- The words of a segment's type, each of which stands for one thing.
-use Rattle.std.proofs.Common.{◌≡◌, ◌≢◌, ℕ, List, codes, Option, Some, None, if◌then◌else◌, refl, sym, ap, ◌∙◌}
+use Rattle.std.proofs.Common.{◌≡◌, ◌≢◌, ℕ, List, codes, Option, Some, None, if◌then◌else◌, sym, ap, ◌∙◌}
 use lib.Pointwise.{pointwise}
 use lib.Dec.{eqb}
 use Rattle.erl_syntax.specs.declared.segment.Spec.{Spec}

@@ -1,4 +1,4 @@
-use Rattle.std.proofs.Common.{rules, ◌+◌, ◌∙◌, drop}
+use Rattle.std.proofs.Common.{◌+◌, ◌∙◌, drop}
 use Rattle.std.proofs.Math.Facts.{to_z-of_z}
 use mir.Syntax.{w128}
 use Rattle.pattern_read.proofs.LeafExits.{leaf_variable, leaf_wild, leaf_integer, leaf_character, leaf_atom, leaf_string, leaf_none}

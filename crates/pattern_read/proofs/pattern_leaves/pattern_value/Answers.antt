@@ -1,4 +1,4 @@
-use Rattle.std.proofs.Common.{rules, ◌+◌, ◌∙◌, drop}
+use Rattle.std.proofs.Common.{◌+◌, ◌∙◌, drop}
 use Rattle.std.proofs.Math.Facts.{to_z-of_z}
 use mir.Syntax.{w128}
 use Rattle.pattern_read.proofs.Values.{ends_variable, ends_wild, ends_integer, ends_character, ends_string, ends_none, ends_there}

@@ -1,4 +1,4 @@
-use Rattle.std.proofs.Common.{rules, ◌+◌, ◌∙◌, sym, refl}
+use Rattle.std.proofs.Common.{rules, ◌+◌, ◌∙◌, sym}
 use denote.Enum.Bare.{same_true}
 use Rattle.std.proofs.Math.Facts.{to_z-of_z}
 use mir.Syntax.{w128}
