@@ -1,6 +1,6 @@
 -- What the readers of expressions, guards and bodies want, and the tokens with which it could go on.
-use Rattle.std.specs.Prelude.{◌≡◌, ℕ, Bool, true, false, List, [], ◌∷◌}
-use Rattle.erl_syntax.specs.Grammar.{Mode, InBody, InGuard, InSize, Context, Goal, Of, Common, ListRest, BitsRest, ASegment, Simple, SegmentRest, SegmentType, Quals, AQual, Guarded, Tests, Body, AnItem, Alts, AnAlt, Branches, ABranch, in_mode}
+use Rattle.std.specs.Prelude.{ℕ, Bool, true, false, List, [], ◌∷◌}
+use Rattle.erl_syntax.specs.Grammar.{Mode, InBody, InGuard, Context, Goal, Of, Common, ListRest, BitsRest, ASegment, Simple, SegmentRest, Quals, AQual, Guarded, Tests, Body, AnItem, Alts, AnAlt, Branches, ABranch}
 use Rattle.erl_syntax.specs.declared.span.Span.{Span}
 use Rattle.erl_syntax.specs.declared.token.TokenKind.{TokenKind}
 use Rattle.erl_syntax.specs.declared.token.TokenKind.TheVariants as k

@@ -3,11 +3,11 @@ ghost use Rattle.pattern_read.specs.Reading.{Gives, closed};
 ghost use Rattle.body_read.specs.WantedExprs.{alt_in, alts_in, body_longer, branch_in, branches_in, in_body};
 
 use crate::bodies::{body, guarded, tests};
+use erl_syntax::{Alt, Branch, Guard, Listed, TokenKind};
 use pattern_read::fault::{Cause, Fault};
 use pattern_read::patterns::pattern;
 use pattern_read::placed::higher;
 use pattern_read::source::Source;
-use erl_syntax::{Alt, Branch, Guard, Listed, TokenKind};
 use std::alloc::Global;
 
 /// The clauses of `case` and `receive`, up to `end`.

@@ -3,12 +3,12 @@ ghost use Rattle.pattern_read.specs.Reading.{Gives, closed};
 ghost use Rattle.body_read.specs.WantedExprs.{body_in, body_longer, guarded_in, in_body, in_guard, tests_in};
 
 use crate::exprs::level;
-use pattern_read::fault::{Cause, Fault};
 use crate::items::item;
-use pattern_read::placed::{Placed, higher};
 use crate::setting::Setting;
-use pattern_read::source::Source;
 use erl_syntax::{Expr, Guard, Item, Listed, TokenKind};
+use pattern_read::fault::{Cause, Fault};
+use pattern_read::placed::{Placed, higher};
+use pattern_read::source::Source;
 use std::alloc::Global;
 
 /// A guard, if there is one, and the arrow.

@@ -5,10 +5,10 @@ ghost use Rattle.pattern_read.specs.Wanted.{extends, level_in};
 ghost use Rattle.body_read.specs.WantedExprs.{qual_longer, qual_in};
 ghost use Rattle.body_read.specs.WantedItems.{matched_in, generated_in, Joins, IsFarther, Joined, Joined3, GivesValue, bars, NoneOf, BarStands, BitsTried, IsFilterOf};
 
+use erl_syntax::{Expr, Qual, TokenKind};
 use pattern_read::fault::{Cause, Fault};
 use pattern_read::placed::Placed;
 use pattern_read::source::Source;
-use erl_syntax::{Expr, Qual, TokenKind};
 
 /// The cause at a token at which one reading is refused, where another is refused further left, or there.
 fn joined(later: Cause, earlier: Cause) -> Cause

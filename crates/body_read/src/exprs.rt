@@ -5,13 +5,13 @@ ghost use Rattle.pattern_read.specs.Wanted.{Closes, exprs_in, extends, joined, l
 ghost use Rattle.body_read.specs.WantedExprs.{in_setting};
 ghost use Rattle.pattern_read.specs.declared.fault.Fault.TheVariants.{Memory};
 
-use pattern_read::fault::{Cause, Fault};
 use crate::operand::operand;
+use crate::setting::Setting;
+use erl_syntax::{Expr, Listed, Op, TokenKind};
+use pattern_read::fault::{Cause, Fault};
 use pattern_read::operators::{level as level_of, operator, right_of};
 use pattern_read::placed::{Placed, higher};
-use crate::setting::Setting;
 use pattern_read::source::Source;
-use erl_syntax::{Expr, Listed, Op, TokenKind};
 use std::alloc::Global;
 
 /// Whether a block begins so: a `case`, a `receive` or an `if`.

@@ -5,12 +5,12 @@ ghost use Rattle.body_read.specs.WantedItems.{matched_in};
 
 use crate::choosing::item_value;
 use crate::exprs::level;
+use crate::setting::Setting;
+use erl_syntax::{Item, Listed, Pattern, TokenKind};
 use pattern_read::fault::Fault;
 use pattern_read::patterns::pat;
 use pattern_read::placed::{Placed, higher};
-use crate::setting::Setting;
 use pattern_read::source::{Source, mark};
-use erl_syntax::{Item, Listed, Pattern, TokenKind};
 use std::alloc::Global;
 
 /// An item of a body: patterns, each with `=`, and an expression.

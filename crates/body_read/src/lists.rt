@@ -5,13 +5,13 @@ ghost use Rattle.body_read.specs.WantedExprs.{in_setting, list_in, mode_of};
 ghost use Rattle.body_read.specs.WantedSegments.{NoRow, after_first_in, last_in};
 
 use crate::exprs::{cause_of_first, level};
-use pattern_read::fault::{Cause, Fault};
-use pattern_read::placed::{Placed, higher};
 use crate::quals::quals;
 use crate::segments::is_row;
 use crate::setting::Setting;
-use pattern_read::source::{Source, mark};
 use erl_syntax::{Expr, Listed, Span, TokenKind};
+use pattern_read::fault::{Cause, Fault};
+use pattern_read::placed::{Placed, higher};
+use pattern_read::source::{Source, mark};
 use std::alloc::Global;
 
 /// A list or a list comprehension, behind `[`.

@@ -11,14 +11,14 @@ ghost use Rattle.std.specs.Prelude.{Some};
 
 use crate::alternatives::{alts, branches};
 use crate::exprs::{exprs, is_block, level, one};
-use pattern_read::fault::{Cause, Fault};
 use crate::lists::list;
-use pattern_read::operators::prefix;
-use pattern_read::placed::{Placed, higher};
 use crate::segments::bits;
 use crate::setting::Setting;
-use pattern_read::source::{Numbered, Source, mark};
 use erl_syntax::{Alt, Expr, Listed, Prefix, Span, TokenKind};
+use pattern_read::fault::{Cause, Fault};
+use pattern_read::operators::prefix;
+use pattern_read::placed::{Placed, higher};
+use pattern_read::source::{Numbered, Source, mark};
 use std::alloc::Global;
 
 /// An operand.

@@ -7,12 +7,12 @@ ghost use Rattle.body_read.specs.WantedItems.{OpensBits, generated_in, segments_
 
 use crate::choosing::filter;
 use crate::exprs::level;
+use crate::setting::Setting;
+use erl_syntax::{Listed, Pattern, Qual, Segment, Span, TokenKind};
 use pattern_read::fault::{Cause, Fault};
 use pattern_read::patterns::{pattern, pattern_bits};
 use pattern_read::placed::{Placed, higher};
-use crate::setting::Setting;
 use pattern_read::source::{Source, mark};
-use erl_syntax::{Listed, Pattern, Qual, Segment, Span, TokenKind};
 use std::alloc::Global;
 
 /// Qualifiers up to a closing bracket.

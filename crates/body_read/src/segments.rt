@@ -8,15 +8,15 @@ ghost use Rattle.body_read.specs.WantedExprs.{bits_in, in_setting, mode_of, segm
 ghost use Rattle.pattern_read.specs.WantedPatterns.{FirstToken};
 ghost use Rattle.body_read.specs.WantedSegments.{GivesBehind, NoPrefix, NoRow, PrefixAt, after_value_in, begins_simple, more_segments_in, prefixed_in};
 
-use pattern_read::fault::{Cause, Fault};
 use crate::operand::common;
+use crate::quals::quals;
+use crate::setting::Setting;
+use erl_syntax::{Expr, Listed, Prefix, Segment, Span, TokenKind};
+use pattern_read::fault::{Cause, Fault};
 use pattern_read::operators::prefix;
 use pattern_read::placed::{Placed, higher};
-use crate::quals::quals;
 use pattern_read::segment_types::segment_type;
-use crate::setting::Setting;
 use pattern_read::source::Source;
-use erl_syntax::{Expr, Listed, Prefix, Segment, Span, TokenKind};
 use std::alloc::Global;
 
 /// The operator before an expression that stands there, with its place.

@@ -1,5 +1,5 @@
 -- The laws of patterns that begin with a sign or a bracket, and where no pattern begins.
-use Rattle.std.proofs.Common.{◌≡◌, ◌≢◌, ℕ, ℤ, ◌+◌, ◌≤◌, ◌<◌, Bool, true, false, IsTrue, List, [], ◌∷◌, ◌++◌, refl, sym, ap, subst, ◌∙◌, arith, pos}
+use Rattle.std.proofs.Common.{◌≡◌, ℕ, ℤ, ◌+◌, ◌≤◌, ◌<◌, Bool, true, false, IsTrue, List, [], ◌∷◌, ◌++◌, refl, sym, ap, subst, ◌∙◌, arith, pos}
 use Rattle.std.specs.Prelude.{◌-ℤ◌}
 use Rattle.erl_syntax.specs.declared.span.Span.{Span}
 use Rattle.erl_syntax.specs.declared.token.TokenKind.{TokenKind}
@@ -8,10 +8,10 @@ use Rattle.erl_syntax.specs.declared.pattern.Pattern.{Pattern}
 use Rattle.erl_syntax.specs.declared.pattern.Pattern.TheVariants as p
 use Rattle.erl_syntax.specs.Word.{Word}
 use Rattle.erl_syntax.specs.Names.{Signed, plus, minus}
-use Rattle.erl_syntax.specs.Grammar.{Context, under, inside, Limits, Goal, Mark, At, The, Of, APattern, Pat, SameTail, Patterns, PatternList, PatternBits, pattern, not_same, pat_variable, pat_wild, pat_integer, pat_signed, pat_character, pat_atom, pat_string, pat_paren, pat_tuple, pat_list, pat_bits, no_patterns, no_pattern_list, no_pattern_bits, Spells, takes, begins, this, expands}
+use Rattle.erl_syntax.specs.Grammar.{Context, inside, Limits, Goal, Mark, The, Of, APattern, Pat, pattern, not_same, pat_variable, pat_wild, pat_integer, pat_signed, pat_character, pat_atom, pat_string, pat_paren, pat_tuple, pat_list, pat_bits, no_patterns, no_pattern_list, no_pattern_bits, Spells, takes, begins, this, expands}
 use Rattle.pattern_read.specs.declared.placed.Placed.{Placed}
 use Rattle.pattern_read.specs.declared.fault.Cause.TheVariants.{Syntax, TooDeep}
-use Rattle.pattern_read.specs.Reading.{Passes, IsRefused, GoesOn, IsWide, Follows, SameHead, closed, nothing}
+use Rattle.pattern_read.specs.Reading.{Passes, IsRefused, SameHead, closed, nothing}
 use Rattle.pattern_read.specs.Wanted.{NoMark, no_mark_end, no_mark, mark_in}
 use Rattle.pattern_read.specs.WantedPatterns.{begins_pattern, opens_pattern, pat_in, pattern_in}
 use Rattle.pattern_read.proofs.Operands.{mark_word, some_place, deeper, deeper_wide}

@@ -1,13 +1,12 @@
 -- What each exit of the readers of patterns says.
-use Rattle.std.proofs.Common.{◌≡◌, ◌≢◌, ℕ, ◌+◌, ◌≤◌, ◌<◌, max, true, false, List, [], ◌∷◌, ◌++◌, append_assoc, drop, Result, Ok, Err, refl, sym, ap, subst, ◌∙◌, arith}
-use Rattle.erl_syntax.specs.declared.span.Span.{Span}
+use Rattle.std.proofs.Common.{◌≡◌, ℕ, ◌+◌, ◌≤◌, ◌<◌, max, true, List, [], ◌∷◌, ◌++◌, append_assoc, drop, Ok, Err, refl, sym, ap, ◌∙◌, arith}
 use Rattle.erl_syntax.specs.declared.token.TokenKind.{TokenKind}
 use Rattle.erl_syntax.specs.declared.token.TokenKind.TheVariants as k
 use Rattle.erl_syntax.specs.declared.pattern.Pattern.{Pattern}
 use Rattle.erl_syntax.specs.declared.pattern.Pattern.TheVariants as p
 use Rattle.erl_syntax.specs.declared.segment.Segment.{Segment}
 use Rattle.erl_syntax.specs.Word.{Word}
-use Rattle.erl_syntax.specs.Grammar.{Context, under, inside, Goal}
+use Rattle.erl_syntax.specs.Grammar.{Context, under, inside}
 use Rattle.pattern_read.specs.Source.{StandsAt}
 use Rattle.pattern_read.specs.declared.source.Numbered.{Numbered}
 use Rattle.pattern_read.specs.declared.placed.Placed.{Placed}
@@ -16,7 +15,7 @@ use Rattle.pattern_read.specs.declared.fault.Cause.TheVariants.{Syntax, TooDeep}
 use Rattle.pattern_read.specs.Reading.{Passes, IsRefused, Gives, closed}
 use Rattle.pattern_read.specs.Wanted.{IsAt, NoMark, mark_in}
 use Rattle.pattern_read.specs.WantedPatterns.{goes_same, opens_pattern, pattern_in, pat_in, same_in, patterns_in, pattern_list_in, pattern_end_in, pattern_bits_in, ClosesPatterns}
-use Rattle.pattern_read.proofs.Passing.{Within, same_kinds, closed_within, Behind, and_then, refused_after, first_of_two, at_token, refused_at, remade, fault_after, fault_first}
+use Rattle.pattern_read.proofs.Passing.{same_kinds, Behind, and_then, refused_after, first_of_two, at_token, refused_at, remade, fault_after, fault_first}
 use Rattle.pattern_read.proofs.Levels.{same_pair}
 use Rattle.pattern_read.proofs.Operands.{behind_mark, mark_spelled}
 use Rattle.pattern_read.proofs.Pats.{same_pat, on_brace, on_bracket, on_bits}

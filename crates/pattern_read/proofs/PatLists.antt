@@ -1,17 +1,17 @@
 -- The laws of lists of patterns up to a closing bracket.
-use Rattle.std.proofs.Common.{◌≡◌, ◌≢◌, ℕ, ℤ, ◌+◌, ◌≤◌, ◌<◌, max, Bool, true, false, IsTrue, List, [], ◌∷◌, ◌++◌, drop, Option, Some, None, refl, sym, ap, subst, ◌∙◌, arith, pos}
+use Rattle.std.proofs.Common.{◌≡◌, ℕ, ℤ, ◌≤◌, max, false, IsTrue, List, [], ◌∷◌, ◌++◌, refl, sym, ap, ◌∙◌, arith}
 use Rattle.erl_syntax.specs.declared.span.Span.{Span}
 use Rattle.erl_syntax.specs.declared.token.TokenKind.{TokenKind}
 use Rattle.erl_syntax.specs.declared.token.TokenKind.TheVariants as k
 use Rattle.erl_syntax.specs.declared.pattern.Pattern.{Pattern}
 use Rattle.erl_syntax.specs.Word.{Word}
 use Rattle.erl_syntax.specs.Names.{Signed, plus, minus}
-use Rattle.erl_syntax.specs.Grammar.{Context, Limits, Goal, Mark, The, Of, APattern, Pat, SameTail, Patterns, MorePatterns, pattern, pat_variable, pat_wild, pat_integer, pat_signed, pat_character, pat_atom, pat_string, pat_paren, pat_tuple, pat_list, pat_bits, no_patterns, patterns, more_patterns, end_patterns, Spells, takes, begins, this, expands}
+use Rattle.erl_syntax.specs.Grammar.{Context, Limits, Goal, Of, APattern, Pat, SameTail, Patterns, MorePatterns, pattern, pat_variable, pat_wild, pat_integer, pat_signed, pat_character, pat_atom, pat_string, pat_paren, pat_tuple, pat_list, pat_bits, no_patterns, patterns, more_patterns, end_patterns, Spells, takes, begins, this, expands}
 use Rattle.pattern_read.specs.declared.placed.Placed.{Placed}
-use Rattle.pattern_read.specs.declared.fault.Cause.TheVariants.{Syntax, TooDeep}
-use Rattle.pattern_read.specs.Reading.{Passes, IsRefused, IsWide, Follows, SameHead, closed, nothing}
+use Rattle.pattern_read.specs.declared.fault.Cause.TheVariants.{Syntax}
+use Rattle.pattern_read.specs.Reading.{Passes, IsRefused, SameHead, closed, nothing}
 use Rattle.pattern_read.specs.Wanted.{NoMark, no_mark_end, no_mark}
-use Rattle.pattern_read.proofs.Passing.{Within, Behind, Spelled}
+use Rattle.pattern_read.proofs.Passing.{Behind, Spelled}
 use Rattle.pattern_read.proofs.Levels.{same_pair}
 use Rattle.pattern_read.proofs.Operands.{mark_word}
 use Rattle.pattern_read.specs.WantedPatterns.{begins_pattern, goes_same, pattern_in, patterns_in, ClosesPatterns}

@@ -1,5 +1,5 @@
 -- The laws of chains of patterns with `=`, and of the items and the tail of lists.
-use Rattle.std.proofs.Common.{◌≡◌, ◌≢◌, ℕ, ◌+◌, ◌≤◌, ◌<◌, max, Bool, true, false, IsTrue, List, [], ◌∷◌, ◌++◌, append_assoc, refl, sym, ap, subst, ◌∙◌, arith}
+use Rattle.std.proofs.Common.{◌≡◌, ℕ, ◌+◌, ◌≤◌, ◌<◌, max, false, IsTrue, List, [], ◌∷◌, ◌++◌, append_assoc, refl, sym, ap, ◌∙◌, arith}
 use Rattle.erl_syntax.specs.declared.span.Span.{Span}
 use Rattle.erl_syntax.specs.declared.token.TokenKind.{TokenKind}
 use Rattle.erl_syntax.specs.declared.token.TokenKind.TheVariants as k
@@ -16,8 +16,6 @@ use Rattle.pattern_read.specs.WantedPatterns.{begins_pattern, goes_same, pattern
 use Rattle.pattern_read.proofs.Passing.{Behind, behind_closed, Spelled, spells_at}
 use Rattle.pattern_read.proofs.Levels.{same_pair}
 use Rattle.pattern_read.proofs.Operands.{mark_word, deeper, deeper_wide}
-use Rattle.pattern_read.proofs.Pats.{same_pat}
-use Rattle.pattern_read.proofs.PatLists.{first_pattern}
 use Rattle.pattern_read.proofs.PatBegins.{some_pattern, pat_spells, NoPattern, no_pattern, no_pattern_end, pat_none, Begun, begun}
 
 -- ---- A pattern is a first one, and what follows

@@ -1,5 +1,5 @@
 -- The laws of patterns: what each token does where a pattern is wanted.
-use Rattle.std.proofs.Common.{◌≡◌, ◌≢◌, ℕ, ℤ, ◌+◌, ◌≤◌, ◌<◌, max, Bool, true, false, IsTrue, List, [], ◌∷◌, ◌++◌, drop, Option, Some, None, refl, sym, ap, subst, ◌∙◌, arith, pos}
+use Rattle.std.proofs.Common.{◌≡◌, ℕ, ℤ, ◌+◌, ◌<◌, List, [], ◌∷◌, refl, sym, ap, ◌∙◌, arith, pos}
 use Rattle.erl_syntax.specs.declared.span.Span.{Span}
 use Rattle.erl_syntax.specs.declared.token.TokenKind.{TokenKind}
 use Rattle.erl_syntax.specs.declared.token.TokenKind.TheVariants as k
@@ -8,11 +8,10 @@ use Rattle.erl_syntax.specs.declared.pattern.Pattern.TheVariants as p
 use Rattle.erl_syntax.specs.declared.segment.Segment.{Segment}
 use Rattle.erl_syntax.specs.Word.{Word}
 use Rattle.erl_syntax.specs.Names.{Signed, plus, minus}
-use Rattle.erl_syntax.specs.Grammar.{Context, under, inside, Limits, Goal, Mark, At, The, Of, APattern, Pat, Patterns, PatternList, PatternBits, pat_variable, pat_wild, pat_integer, pat_signed, pat_character, pat_atom, pat_string, pat_paren, pat_tuple, pat_list, pat_bits, Spells, takes, begins, this, expands}
+use Rattle.erl_syntax.specs.Grammar.{Context, under, inside, Limits, Goal, Of, Pat, Patterns, PatternList, PatternBits, pat_variable, pat_wild, pat_integer, pat_signed, pat_character, pat_atom, pat_string, pat_paren, pat_tuple, pat_list, pat_bits, Spells, begins, this, expands}
 use Rattle.pattern_read.specs.declared.placed.Placed.{Placed}
-use Rattle.pattern_read.specs.declared.fault.Cause.TheVariants.{Syntax, TooDeep}
-use Rattle.pattern_read.specs.Reading.{Passes, IsRefused, IsWide, Follows, SameHead, closed, nothing}
-use Rattle.pattern_read.specs.WantedPatterns.{pat_in, pattern_in, patterns_in, pattern_bits_in, pattern_list_in}
+use Rattle.pattern_read.specs.Reading.{Passes, closed, nothing}
+use Rattle.pattern_read.specs.WantedPatterns.{pat_in, patterns_in, pattern_bits_in, pattern_list_in}
 
 pub same_pat : {a b : Span} {e f : Pattern} {d g : ℕ} → a ≡ b → e ≡ f → d ≡ g → (let P : Placed Pattern = record { at = a; tree = e; height = d } in P) ≡ (let P : Placed Pattern = record { at = b; tree = f; height = g } in P)
 same_pat {a = a} {b = b} {e = e} {f = f} {d = d} {g = g} p q r = ap (λ v. record { at = v; tree = e; height = d }) p ∙ ap (λ v. record { at = b; tree = v; height = d }) q ∙ ap (λ v. record { at = b; tree = f; height = v }) r

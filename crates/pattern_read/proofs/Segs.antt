@@ -1,5 +1,5 @@
 -- The laws of sizes and segments of patterns, and what each exit of their readers says.
-use Rattle.std.proofs.Common.{◌≡◌, ◌≢◌, ℕ, ℤ, ◌+◌, ◌≤◌, ◌<◌, max, Bool, true, false, IsTrue, List, [], ◌∷◌, ◌++◌, append_assoc, drop, Option, Some, None, Result, Ok, Err, refl, sym, ap, subst, ◌∙◌, arith, pos}
+use Rattle.std.proofs.Common.{◌≡◌, ℕ, ℤ, ◌+◌, ◌≤◌, ◌<◌, max, false, IsTrue, List, [], ◌∷◌, ◌++◌, append_assoc, drop, Some, None, Result, Ok, Err, refl, sym, ap, ◌∙◌, arith, pos}
 use Rattle.erl_syntax.specs.declared.span.Span.{Span}
 use Rattle.erl_syntax.specs.declared.token.TokenKind.{TokenKind}
 use Rattle.erl_syntax.specs.declared.token.TokenKind.TheVariants as k
@@ -7,7 +7,7 @@ use Rattle.erl_syntax.specs.declared.expr.Expr.{Expr}
 use Rattle.erl_syntax.specs.declared.expr.Expr.TheVariants as x
 use Rattle.erl_syntax.specs.declared.segment.Segment.{Segment}
 use Rattle.erl_syntax.specs.Word.{Word}
-use Rattle.erl_syntax.specs.Grammar.{Context, under, inside, Limits, Goal, Mark, The, Of, Level, SegmentType, PatternBits, MorePatternSegments, PatternSegment, PatternSegmentRest, PatternSize, typed, untyped, no_pattern_bits, pattern_bits, more_pattern_segments, end_pattern_segments, pattern_segment, pattern_sized, pattern_unsized, size_integer, size_variable, size_paren, Spells, takes, this, expands}
+use Rattle.erl_syntax.specs.Grammar.{Context, under, inside, Limits, Goal, Mark, Of, Level, SegmentType, PatternBits, MorePatternSegments, PatternSegment, PatternSegmentRest, PatternSize, typed, untyped, no_pattern_bits, pattern_bits, more_pattern_segments, end_pattern_segments, pattern_segment, pattern_sized, pattern_unsized, size_integer, size_variable, size_paren, Spells, takes, this, expands}
 use Rattle.pattern_read.specs.Source.{StandsAt, number_of}
 use Rattle.pattern_read.specs.declared.source.Numbered.{Numbered}
 use Rattle.pattern_read.specs.declared.placed.Placed.{Placed}
@@ -17,10 +17,10 @@ use Rattle.pattern_read.specs.declared.fault.Cause.TheVariants.{Syntax, TooDeep}
 use Rattle.pattern_read.specs.Reading.{Passes, IsRefused, Follows, SameHead, Gives, closed, nothing}
 use Rattle.pattern_read.specs.Wanted.{IsAt, NoMark, no_mark_end, no_mark, extends, level_in, mark_in}
 use Rattle.pattern_read.specs.WantedPatterns.{begins_value, goes_typed, goes_sized, pattern_value_in, pattern_size_in, pattern_rest_in, pattern_segment_in, pattern_bits_in, segment_type_in, FirstToken, only_deeper, at_end, at_other}
-use Rattle.pattern_read.proofs.Passing.{Within, same_kinds, closed_within, Behind, behind_closed, Spelled, spells_at, and_then, refused_after, first_of_two, at_token, refused_at, remade, fault_after, fault_first}
+use Rattle.pattern_read.proofs.Passing.{Within, same_kinds, Behind, behind_closed, Spelled, spells_at, and_then, refused_after, first_of_two, at_token, refused_at, remade, fault_after, fault_first}
 use Rattle.pattern_read.proofs.Levels.{same_pair}
 use Rattle.pattern_read.proofs.Operands.{behind_mark, mark_spelled, mark_word, some_place, some_word, level_completed, deeper, deeper_wide}
-use Rattle.pattern_read.proofs.Values.{some_value, value_spells, value_none, NoValue, no_value, no_value_there, Begun, begun}
+use Rattle.pattern_read.proofs.Values.{value_none, NoValue, no_value, no_value_there, Begun, begun}
 
 -- ---- Sizes
 

@@ -1,5 +1,5 @@
 -- The laws of segments' types, and what each exit of their readers says.
-use Rattle.std.proofs.Common.{◌≡◌, ◌≢◌, ℕ, ℤ, ◌+◌, ◌<◌, Bool, true, false, IsTrue, List, [], ◌∷◌, ◌++◌, append_assoc, drop, codes, Option, Result, Ok, Err, refl, sym, ap, subst, ◌∙◌, arith, pos}
+use Rattle.std.proofs.Common.{◌≡◌, ◌≢◌, ℕ, ℤ, ◌+◌, Bool, true, false, List, [], ◌∷◌, ◌++◌, append_assoc, drop, codes, Option, Ok, Err, refl, sym, ap, subst, ◌∙◌, arith, pos}
 use Rattle.erl_syntax.specs.declared.span.Span.{Span}
 use Rattle.erl_syntax.specs.declared.token.TokenKind.{TokenKind}
 use Rattle.erl_syntax.specs.declared.token.TokenKind.TheVariants as k
@@ -14,10 +14,10 @@ use Rattle.pattern_read.specs.Source.{StandsAt, number_of}
 use Rattle.pattern_read.specs.declared.source.Numbered.{Numbered}
 use Rattle.pattern_read.specs.declared.fault.Fault.{Fault}
 use Rattle.pattern_read.specs.declared.fault.Cause.TheVariants.{Syntax, UnknownSegmentType}
-use Rattle.pattern_read.specs.Reading.{Passes, IsRefused, GoesOn, Follows, SameHead, Gives, closed, nothing}
+use Rattle.pattern_read.specs.Reading.{Passes, IsRefused, Follows, SameHead, Gives, closed, nothing}
 use Rattle.pattern_read.specs.Wanted.{IsAt, NoMark, no_mark_end, no_mark}
 use Rattle.pattern_read.specs.WantedPatterns.{UnitAt, goes_typed, segment_type_in, spec_in}
-use Rattle.pattern_read.proofs.Passing.{Behind, behind_closed, Spelled, same_kinds, closed_within, and_then, refused_after, first_of_two, at_token, at_place, refused_at, remade, fault_after, fault_first}
+use Rattle.pattern_read.proofs.Passing.{Behind, behind_closed, Spelled, same_kinds, and_then, first_of_two, at_token, refused_at, remade, fault_after, fault_first}
 use Rattle.pattern_read.proofs.Operands.{mark_word, some_place}
 use Rattle.pattern_read.proofs.SpecWords.{one_word, not_unit}
 

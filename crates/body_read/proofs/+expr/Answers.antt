@@ -13,7 +13,7 @@ use Rattle.body_read.proofs.QualExits.{bits_err, bits_ok, items_err as generator
 use Rattle.body_read.proofs.QualLists.{ends, qual_full_at, quals_begin, quals_end, quals_err, quals_more, quals_other}
 use Rattle.body_read.proofs.SegmentExits.{prefixed_err, prefixed_then, segment_deep, segment_signed, segment_then, segment_value_err, simple_at_end, simple_atom_ok, simple_common, size_err, sized_err, sized_ok, unsized_err, unsized_ok}
 use Rattle.body_read.specs.WantedExprs.{in_body, in_guard, in_setting}
-use Rattle.std.proofs.Common.{ap, arith, drop, inl, inr, length, refl, rules, ◌+◌, ◌<◌, ◌∙◌, ◌≤◌}
+use Rattle.std.proofs.Common.{ap, arith, drop, inl, inr, refl, rules, ◌+◌, ◌∙◌}
 use Rattle.std.proofs.lemmas.Result.{err_from_is_err_and}
 use Rattle.erl_syntax.specs.declared.token.TokenKind.TheVariants as k
 use Rattle.body_read.proofs.+expr.Goals as goal
@@ -477,7 +477,6 @@ items::item-loop-pattern-smaller t c = omega (arith, c.loop-pattern.invariant.1,
 
 pub items::item-loop-pattern-preserved : goal.items::item-loop-pattern-preserved
 items::item-loop-pattern-preserved t c = (omega (arith, c.loop-pattern.invariant.0, c.in-Ok.ensures.further.0), c.in-Ok.ensures.further.1, omega (arith, c.in-Ok.ensures.bounded.1, c.loop-pattern.invariant.2, c.higher-height.ensures), item_turn (in_body c.args.deep c.args.brackets) c.args.source.now c.args.at c.loop-pattern.next c.in-Ok.after c.loop-pattern.patterns.items _ c.loop-pattern.height c.higher-height.result c.in-Ok.pattern c.loop-pattern.invariant.3 c.in-Ok.ensures.reads c.in_ok-push-in-Ok.ensures.items c.higher-height.ensures)
-
 
 pub items::item-returns-in_err-value-in-Err-clause-reads : goal.items::item-returns-in_err-value-in-Err-clause-reads
 items::item-returns-in_err-value-in-Err-clause-reads t c = let p = err_from_is_err_and c.from_residual-in_err-value-in-Err.result c.from_residual-in_err-value-in-Err.ensures.1 in rw (p.1, p.2) (item_err (in_body c.args.deep c.args.brackets) c.args.source.now c.args.at c.loop-pattern.next c.loop-pattern.patterns.items c.loop-pattern.height _ c.loop-pattern.invariant.3 (c.in_err-value-in-Err.ensures.reads (in_body c.args.deep c.args.brackets) c.in-Err.ensures.reads c.level-read.ensures.reads))

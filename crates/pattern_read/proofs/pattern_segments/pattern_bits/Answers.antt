@@ -1,7 +1,5 @@
-use Rattle.std.proofs.Common.{rules, arith, ◌+◌, ◌∙◌, sym, refl, drop}
+use Rattle.std.proofs.Common.{rules, arith, ◌∙◌, drop}
 use Rattle.std.proofs.lemmas.Result.{err_from_is_err_and}
-use Rattle.std.proofs.Math.Facts.{to_z-of_z}
-use mir.Syntax.{w128}
 use Rattle.pattern_read.specs.Wanted.{in_size}
 use Rattle.pattern_read.proofs.Segs.{bits_first, bits_empty, bits_begin, bits_err, bits_end, bits_more, bits_other}
 use Rattle.pattern_read.proofs.pattern_segments.pattern_bits.Goals as goal

@@ -1,7 +1,5 @@
-use Rattle.std.proofs.Common.{rules, arith, ◌+◌, ◌∙◌, sym, refl, drop}
+use Rattle.std.proofs.Common.{refl}
 use Rattle.std.proofs.lemmas.Result.{err_from_is_err_and}
-use Rattle.std.proofs.Math.Facts.{to_z-of_z}
-use mir.Syntax.{w128}
 use Rattle.pattern_read.specs.Wanted.{in_size}
 use Rattle.pattern_read.proofs.Segs.{segment_value_err, segment_whole}
 use Rattle.pattern_read.proofs.pattern_segments.pattern_segment.Goals as goal

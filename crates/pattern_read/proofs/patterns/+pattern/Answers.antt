@@ -1,6 +1,5 @@
-use Rattle.std.proofs.Common.{rules, arith, ◌<◌, ◌≤◌, length, ◌+◌, ◌∙◌, sym, refl, drop}
+use Rattle.std.proofs.Common.{rules, arith, ◌∙◌, sym, refl, drop}
 use Rattle.std.proofs.lemmas.Result.{err_from_is_err_and}
-use Rattle.erl_syntax.specs.declared.token.TokenKind.TheVariants as k
 use Rattle.pattern_read.specs.Wanted.{in_size}
 use Rattle.pattern_read.proofs.LeafExits.{pat_end}
 use Rattle.pattern_read.proofs.PatTails.{patterns_first, list_first}

@@ -1,5 +1,5 @@
-use Rattle.std.proofs.Common.{rules, arith, ◌∙◌, sym, drop, ◌+◌}
-use Rattle.pattern_read.proofs.Types.{spec_none, spec_ok, spec_other, unit_at}
+use Rattle.std.proofs.Common.{rules, ◌∙◌, sym, drop, ◌+◌}
+use Rattle.pattern_read.proofs.Types.{spec_none, spec_ok, spec_other}
 use Rattle.pattern_read.proofs.segment_types.spec.Goals as goal
 
 pub returns-then-not-is-clause-reads : goal.returns-then-not-is-clause-reads
