@@ -3,9 +3,11 @@
 
 mod built_ins;
 mod names;
+mod order;
 
 pub use built_ins::built_in;
 pub use names::{has_function, is_before, is_exported};
+pub use order::first_of;
 
 #[cfg(test)]
 mod tests;
