@@ -93,7 +93,7 @@ source_in t g y (items _ at pt _ h) = along _ _ _ (in_items t g at pt y h) (Cont
 source_in t g y (bits _ at sgs _ h) = along _ _ _ (in_bit_items t g at sgs y h) (Contains-head (spot t (AnExpr y)) (each (segment_in side.Generator (to_generate t)) [] sgs))
 source_in t g y (filter _ at _ h) = along _ _ _ (in_filter t g at y h) (Contains-head (spot t (AnExpr y)) [])
 
-reversed : (left : List Pattern) (pt : Pattern) (right : List Pattern) → reverse (left ++ pt ∷ right) ≡ reverse right ++ pt ∷ reverse left
+pub reversed : (left : List Pattern) (pt : Pattern) (right : List Pattern) → reverse (left ++ pt ∷ right) ≡ reverse right ++ pt ∷ reverse left
 reversed left pt right = reverse-append left (pt ∷ right) ∙ ap (λ zs. zs ++ reverse left) (reverse-append (pt ∷ []) right) ∙ append_assoc (reverse right) (pt ∷ []) (reverse left)
 
 in_size : (s : Scope) (on : SideUse) (sg : Segment) (e : Expr) → on ≢ side.Build → sg.size ≡ Some e → Contains (inside_segment s on sg) (spot (size_scope s) (AnExpr e))
