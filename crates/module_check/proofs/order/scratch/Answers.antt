@@ -1,4 +1,4 @@
-use Rattle.module_check.proofs.Sound.{sound, root_stands}
+use Rattle.module_check.proofs.Whole.{first_fault, accepted}
 use Rattle.module_check.proofs.order.scratch.Goals as goal
 
 pub returns : goal.returns
