@@ -14,7 +14,7 @@ use Rattle.erl_syntax.specs.declared.typing.SegFault.TheVariants as f
 use Rattle.erl_syntax.specs.declared.checking.CheckCause.{CheckCause}
 use Rattle.erl_syntax.specs.declared.checking.CheckCause.TheVariants as c
 use Rattle.erl_syntax.specs.declared.checking.CheckFault.{CheckFault}
-use Rattle.module_check.specs.Order.{rank, segment_rank, NotAfter, IsFirstOf, IsLeast, Some_of, Either, Below}
+use Rattle.module_check.specs.Order.{rank, segment_rank, NotAfter, IsFirstOf, IsLeast, Some_of, Either, Below, At, fault_if}
 
 same_spot : (a b : Span) → a.line ≡ b.line → a.column ≡ b.column → a ≡ b
 same_spot a b e h =
@@ -107,3 +107,17 @@ module _ (Of : ℕ → Span → CheckCause → Type 0) where
         | inl e ↦ inr (let G : ℕ → Type 0 = λ j. Of j at why in subst G e h)
         | inr e ↦ inl (k, (omega arith, h))
       ]
+
+not_after_itself : (a : Span) (v : CheckCause) → NotAfter a v a v
+not_after_itself a v = inr (refl, omega arith)
+
+-- a fault that holds or not
+pub least_if : (b : Bool) (P : Type 0) (az : Span) (o : CheckCause) (r : Option CheckFault) → MatchBool b P (P → ⊥) → r ≡ fault_if b az o → IsLeast (λ at why. At az o at why × P) r
+least_if true P az o r h e = let F : Option CheckFault → Type 0 = IsLeast (λ at why. At az o at why × P) in subst F (sym e) (((refl, refl), h), λ at why k. moved at why k.0)
+  where
+    moved : (at : Span) (why : CheckCause) → At az o at why → NotAfter az o at why
+    moved at why k = inr (k.0, (let Q : CheckCause → Type 0 = λ v. rank o ≤ rank v in subst Q k.1 (omega arith)))
+least_if false P az o r h e = let F : Option CheckFault → Type 0 = IsLeast (λ at why. At az o at why × P) in subst F (sym e) (λ at why k. h k.1)
+
+pub least_none : (P : Span → CheckCause → Type 0) (r : Option CheckFault) → r ≡ None → ((at : Span) (why : CheckCause) → P at why → ⊥) → IsLeast P r
+least_none P r e h = let F : Option CheckFault → Type 0 = IsLeast P in subst F (sym e) h

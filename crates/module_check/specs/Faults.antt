@@ -8,6 +8,7 @@ use Rattle.erl_syntax.specs.Checking.{Spelled, HasFunction, IsExported, CallsBui
 use Rattle.erl_syntax.specs.declared.span.Span.{Span}
 use Rattle.erl_syntax.specs.declared.expr.Expr.{Expr, out-Expr}
 use Rattle.erl_syntax.specs.declared.expr.Expr.TheOpen as O
+use Rattle.erl_syntax.specs.declared.expr.Expr.TheVariants as x
 use Rattle.erl_syntax.specs.declared.pattern.Pattern.{Pattern, out-Pattern}
 use Rattle.erl_syntax.specs.declared.segment.Segment.{Segment}
 use Rattle.erl_syntax.specs.declared.qual.Qual.{Qual}
@@ -139,3 +140,7 @@ FunctionFault m k at why = (f : Function) × (((k < length m.functions) × (f �
 
 abbrev pub AnyFault : Module → Span → CheckCause → Type 0
 AnyFault m = Either (Either (Some_of HeadFault (rest m.heads)) (Some_of (ExportFault m) m.exports)) (Either (Below (FunctionFault m) (length m.functions)) (EndFault m))
+
+-- an atom of these characters
+pub data IsAtomOf (m : Module) (chars : List ℕ) : Expr → Type 0 where
+  atom : (e : Expr) (at : Span) (n : ℕ) → e ≡ x.Atom at n → Spelled m n chars → IsAtomOf m chars e

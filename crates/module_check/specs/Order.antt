@@ -1,5 +1,5 @@
 -- The fault that is told: the one that starts first, and at one place the one whose cause stands first.
-use Rattle.std.specs.Prelude.{◌≡◌, ℕ, ◌<◌, ◌≤◌, List, Option, Some, None, ◌⊎◌}
+use Rattle.std.specs.Prelude.{◌≡◌, ℕ, ◌<◌, ◌≤◌, Bool, true, false, List, Option, Some, None, ◌⊎◌}
 use Rattle.std.specs.List.{Contains}
 use Rattle.erl_syntax.specs.Checking.{IsBefore}
 use Rattle.erl_syntax.specs.declared.span.Span.{Span}
@@ -65,3 +65,8 @@ Below Of n at why = (k : ℕ) × ((k < n) × Of k at why)
 -- a fault of this cause stands here
 abbrev pub At : Span → CheckCause → Span → CheckCause → Type 0
 At az other at why = (az ≡ at) × (other ≡ why)
+
+-- the fault of this cause at this place, where it holds
+abbrev pub fault_if : Bool → Span → CheckCause → Option CheckFault
+fault_if true span why = Some (record { span = span; why = why })
+fault_if false span why = None

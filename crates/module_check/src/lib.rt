@@ -2,10 +2,13 @@
 #![tactic(auto)]
 
 mod built_ins;
+mod calls;
+mod forms;
 mod names;
 mod order;
 
 pub use built_ins::built_in;
+pub use calls::is_spelled;
 pub use names::{has_function, is_before, is_exported};
 pub use order::first_of;
 

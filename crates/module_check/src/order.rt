@@ -1,9 +1,8 @@
-ghost use Rattle.std.specs.Prelude.{◌≡◌, MatchBool, [], ◌∷◌, Contains};
-ghost use Rattle.module_check.specs.Spots.{Spot, IsUnder};
-ghost use Rattle.module_check.specs.Order.{segment_rank, rank, NotAfter, IsFirstOf};
+ghost use Rattle.std.specs.Prelude.{◌≡◌, MatchBool};
+ghost use Rattle.module_check.specs.Order.{segment_rank, rank, NotAfter, IsFirstOf, fault_if};
 
 use crate::names::is_before;
-use erl_syntax::{CheckCause, CheckFault, SegFault};
+use erl_syntax::{CheckCause, CheckFault, SegFault, Span};
 
 /// Where a segment's fault stands in the order of the causes.
 fn segment_rank(fault: SegFault) -> u32
@@ -64,7 +63,13 @@ pub fn first_of(fault: Option<CheckFault>, other: Option<CheckFault>) -> Option<
     }
 }
 
-/// A scratch law.
-pub fn scratch()
-    ensures { (a : Spot) → IsUnder (record { name = 0; arity = 0; clauses = [] }) a → ⊥ }
-{}
+/// The fault of this cause at this place, where it holds.
+pub(crate) fn fault_if(holds: bool, span: Span, why: CheckCause) -> Option<CheckFault>
+    ensures { result ≡ fault_if holds span why }
+{
+    if holds {
+        Some(CheckFault { span, why })
+    } else {
+        None
+    }
+}

@@ -1,0 +1,12 @@
+use Rattle.std.proofs.Common.{arith, subst, sym, ◌∙◌, refl, ◌≡◌, List, ap}
+use Rattle.erl_syntax.specs.Checking.{macro, Spelled}
+use Rattle.erl_syntax.specs.BuiltIns.{name_of}
+use Rattle.std.proofs.Common.{ℕ, MatchBool, get_or, length, ◌<◌}
+use Rattle.module_check.proofs.Calling.{by_text, atom_by, own_by, none_at_all, one_at_all, bare_by, home_by, own_bare, own_home, bare_least}
+use Rattle.module_check.proofs.calls.calls_own.Goals as goal
+
+pub returns-in-empty : goal.returns-in-empty
+returns-in-empty c = own_bare c.args.tree.now c.args.home.now c.args.name c.args.arity (none_at_all c.args.home.now c.in-empty.len_below) c.if-not-has_function.ensures
+
+pub returns-then-is_own : goal.returns-then-is_own
+returns-then-is_own c = own_home c.args.tree.now c.args.home.now c.home-item.result c.args.name c.args.arity c.is_exported.result (one_at_all c.args.home.now c.home-item.result c.in-len1.len_at_least c.in-len1.len_below c.home-item.is) c.if-not-has_function.ensures c.if-is_own.ensures c.is_exported.ensures
