@@ -1,11 +1,23 @@
-ghost use Rattle.std.specs.Prelude.{◌≡◌, ◌≢◌, MatchBool, [], pos, ℕ, take, length, codes};
+ghost use Rattle.std.specs.Prelude.{◌≡◌, ◌≢◌, MatchBool, [], pos, ℕ, take, length, codes, Contains};
 ghost use Rattle.erl_syntax.specs.Checking.{HasFunction, IsExported, Spelled};
 ghost use Rattle.module_check.specs.Order.{IsLeast, Some_of};
-ghost use Rattle.module_check.specs.Faults.{rest, HeadFault, IsMissing, ExportFault, HasNoMain, EndFault, Differs, DiffersFault, IsNamed, IsAmong, ClausesFault};
+ghost use Rattle.module_check.specs.Faults.{rest, HeadFault, IsMissing, ExportFault, HasNoMain, EndFault, Differs, DiffersFault, IsNamed, IsAmong, ClausesFault, IsExportOf};
+ghost use Rattle.erl_syntax.specs.declared.module.Function.{Function};
+ghost use Rattle.erl_syntax.specs.declared.module.Name.{Name};
 
 use crate::calls::is_spelled;
 use crate::order::{fault_if, first_of};
 use erl_syntax::{CheckCause, CheckFault, Clause, Function, Head, Module, Name};
+
+/// That a `-module` form isn't the module's own.
+fn head_fault(head: &Head) -> Option<CheckFault>
+    ensures { IsLeast (HeadFault head.now) result }
+{
+    Some(CheckFault {
+        span: head.at,
+        why: CheckCause::ModuleAgain,
+    })
+}
 
 /// The first of these `-module` forms.
 fn first_head(heads: &[Head]) -> Option<CheckFault>
@@ -13,7 +25,7 @@ fn first_head(heads: &[Head]) -> Option<CheckFault>
 {
     let mut best = None;
     for head in heads {
-        best = first_of(best, fault_if(true, head.at, CheckCause::ModuleAgain));
+        best = first_of(best, head_fault(head));
     }
     best
 }
@@ -28,15 +40,20 @@ pub(crate) fn heads_fault(heads: &[Head]) -> Option<CheckFault>
     }
 }
 
+/// Whether one of the functions is exported.
+fn has_exported(functions: &[Function], export: &Name) -> bool
+    ensures { MatchBool result ((f : Function) × (Contains functions.now f × IsExportOf export.now f)) ((f : Function) × (Contains functions.now f × IsExportOf export.now f) → ⊥) }
+{
+    functions
+        .iter()
+        .any(|function| function.name == export.name && function.arity as i128 == export.arity)
+}
+
 /// Whether the module has no function of an exported name.
 fn is_missing(tree: &Module, export: &Name) -> bool
     ensures { MatchBool result (IsMissing tree.now export.now) (IsMissing tree.now export.now → ⊥) }
 {
-    !tree
-        .functions
-        .items()
-        .iter()
-        .any(|function| function.name == export.name && function.arity as i128 == export.arity)
+    !has_exported(tree.functions.items(), export)
 }
 
 /// The first export of no function.
@@ -62,15 +79,18 @@ fn is_main(tree: &Module, export: &Name) -> bool
     export.arity == 0 && is_spelled(tree, export.name, b"main")
 }
 
+/// Whether one of the exports is of `main/0`.
+fn exports_main(tree: &Module, exports: &[Name]) -> bool
+    ensures { MatchBool result ((e : Name) × (Contains exports.now e × (Spelled tree.now e.name (codes "main") × (e.arity ≡ pos 0)))) ((e : Name) × (Contains exports.now e × (Spelled tree.now e.name (codes "main") × (e.arity ≡ pos 0))) → ⊥) }
+{
+    exports.iter().any(|export| is_main(tree, export))
+}
+
 /// Whether the module doesn't export `main/0`.
 fn has_no_main(tree: &Module) -> bool
     ensures { MatchBool result (HasNoMain tree.now) (HasNoMain tree.now → ⊥) }
 {
-    !tree
-        .exports
-        .items()
-        .iter()
-        .any(|export| is_main(tree, export))
+    !exports_main(tree, tree.exports.items())
 }
 
 /// What is missing in the module.

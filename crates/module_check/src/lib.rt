@@ -6,6 +6,7 @@ mod calls;
 mod forms;
 mod names;
 mod order;
+mod scopes;
 
 pub use built_ins::built_in;
 pub use calls::is_spelled;
