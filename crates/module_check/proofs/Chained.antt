@@ -3,7 +3,7 @@ use Rattle.std.proofs.Common.{◌≡◌, ◌≢◌, ℕ, suc, zero, ◌+◌, ◌
 use Rattle.std.specs.List.{Contains}
 use Rattle.std.specs.Option.{MatchOption}
 use Rattle.std.specs.Str.{bytes_eq}
-use Rattle.std.proofs.lemmas.List.{append_assoc, append-nil, map-append, length-append, get_or_append_left, get_or_at, get_or_default}
+use Rattle.std.proofs.lemmas.List.{append_assoc, append-nil, map-append, length-append, get_or_append_left, get_or_at, get_or_default, take_more, take_all, drop_more}
 use Rattle.std.proofs.lemmas.List.Elements.{Contains-append_cases, Contains-append_left, Contains-append_right, Contains-push}
 use Rattle.std.proofs.lemmas.Slice.Eq.{bytes_eq-Decides}
 use Rattle.erl_syntax.specs.Bindings.{Bound, names}
@@ -276,3 +276,51 @@ danger_more ds bs ns name =
         ]
       ];
     }
+
+pub sees_put : (old new : List Node) (k last : ℕ) (bs : List Bound) (name : List ℕ) (at : Span) → Sees old k bs → ((cs : List Bound) → Chain old k cs → Chain new last (record { name = name; at = at } ∷ cs)) → Sees new last (record { name = name; at = at } ∷ bs)
+sees_put old new k last bs name at s put =
+    let b : Bound = record { name = name; at = at } in
+    record { chain = b ∷ s.chain; stands = put s.chain s.stands; same = agree_joined (b ∷ []) (b ∷ []) s.chain bs (itself (b ∷ [])) s.same }
+
+pub sees_agree : (nodes : List Node) (k : ℕ) (bs cs : List Bound) → Sees nodes k bs → Agree bs cs → Sees nodes k cs
+sees_agree nodes k bs cs s a = record { chain = s.chain; stands = s.stands; same = chained s.chain bs cs s.same a }
+
+pub append_known : (nodes : List Node) (k : ℕ) (name : List ℕ) (at az : Span) (bs : List Bound) → ((cs : List Bound) → Chain nodes k cs → Found cs name az) → Sees nodes k bs → Sees nodes k (bs ++ record { name = name; at = at } ∷ [])
+append_known nodes k name at az bs f s =
+    sees_agree nodes k bs (bs ++ record { name = name; at = at } ∷ []) s (agree_known bs (record { name = name; at = at }) (same_known s.chain bs name s.same (found_known s.chain name az (f s.chain s.stands))))
+
+pub append_new : (old new : List Node) (k last : ℕ) (name : List ℕ) (at : Span) (bs : List Bound) → ((cs : List Bound) → Chain old k cs → IsKnown cs name → ⊥) → ((cs : List Bound) → Chain old k cs → Chain new last (record { name = name; at = at } ∷ cs)) → Sees old k bs → Sees new last (bs ++ record { name = name; at = at } ∷ [])
+append_new old new k last name at bs f put s =
+    sees_agree new last (record { name = name; at = at } ∷ bs) (bs ++ record { name = name; at = at } ∷ []) (sees_put old new k last bs name at s put)
+      (agree_unknown bs (record { name = name; at = at }) (λ h. f s.chain s.stands (same_known bs s.chain name (flip s.chain bs s.same) h)))
+
+-- a variable more
+pub bounds_more : (ts : List Target) (i : ℕ) (t : Target) → i < length ts → t ≡ get_or ts i t → bounds_of (take (i + 1) ts) ≡ bounds_of (take i ts) ++ bound_of t ∷ []
+bounds_more ts i t l e = ap bounds_of (take_more ts i t l ∙ ap (λ z. take i ts ++ z ∷ []) (sym e)) ∙ map-append bound_of (take i ts) (t ∷ [])
+
+pub bounds_all : (ts : List Target) (i : ℕ) → length ts ≤ i → bounds_of (take i ts) ≡ bounds_of ts
+bounds_all ts i l = ap bounds_of (take_all i ts l)
+
+pub bounds_left : (ts : List Target) (i j : ℕ) (t : Target) → j ≡ i + 1 → i < length ts → t ≡ get_or ts i t → bounds_of (drop i ts) ≡ bound_of t ∷ bounds_of (drop j ts)
+bounds_left ts i j t k l e = ap bounds_of (drop_more ts i t l ∙ ap (λ z. z ∷ drop (i + 1) ts) (sym e)) ∙ ap (λ n. bound_of t ∷ bounds_of (drop n ts)) (sym k)
+
+pub append_more : (nodes : List Node) (last : ℕ) (ts : List Target) (i : ℕ) (t : Target) (bs : List Bound) → i < length ts → t ≡ get_or ts i t → Sees nodes last ((bs ++ bounds_of (take i ts)) ++ bound_of t ∷ []) → Sees nodes last (bs ++ bounds_of (take (i + 1) ts))
+append_more nodes last ts i t bs l e h =
+    let P : List Bound → Type 0 = Sees nodes last in
+    subst P (append_assoc bs (bounds_of (take i ts)) (bound_of t ∷ []) ∙ ap (λ zs. bs ++ zs) (sym (bounds_more ts i t l e))) h
+
+pub names_more : (ts : List Target) (i : ℕ) (t : Target) → i < length ts → t ≡ get_or ts i t → names (bounds_of (take (i + 1) ts)) ≡ names (bounds_of (take i ts)) ++ t.name.now ∷ []
+names_more ts i t l e = ap names (bounds_more ts i t l e) ∙ map-append (λ b. b.name) (bounds_of (take i ts)) (bound_of t ∷ [])
+
+pub endanger_more : (nodes : List Node) (last : ℕ) (ts : List Target) (i : ℕ) (t : Target) (ds : List Danger) (bs : List Bound) → i < length ts → t ≡ get_or ts i t
+    → SeesUnsafe nodes last ((ds ++ record { left_unsafe = names (bounds_of (take i ts)); known = bs } ∷ []) ++ record { left_unsafe = t.name.now ∷ []; known = bs } ∷ [])
+    → SeesUnsafe nodes last (ds ++ record { left_unsafe = names (bounds_of (take (i + 1) ts)); known = bs } ∷ [])
+endanger_more nodes last ts i t ds bs l e h =
+    let P : List (List ℕ) → Type 0 = λ ns. SeesUnsafe nodes last (ds ++ record { left_unsafe = ns; known = bs } ∷ []) in
+    subst P (sym (names_more ts i t l e)) (sees_same nodes last _ _ (danger_more ds bs (names (bounds_of (take i ts))) t.name.now) h)
+
+pub is_known_by : (bs cs : List Bound) (name : List ℕ) (at : Span) → Agree bs cs → Found bs name at → IsKnown cs name
+is_known_by bs cs name at a h = found_known cs name at (a.to name at h)
+
+pub is_unknown_by : (bs cs : List Bound) (name : List ℕ) → Agree bs cs → (IsKnown bs name → ⊥) → IsKnown cs name → ⊥
+is_unknown_by bs cs name a h k = h (same_known cs bs name (flip bs cs a) k)

@@ -2,3 +2,4 @@ pub mod Faults
 pub mod Nodes
 pub mod Order
 pub mod Spots
+pub mod Unsafe

@@ -7,6 +7,7 @@ mod forms;
 mod names;
 mod order;
 mod scopes;
+mod targets;
 
 pub use built_ins::built_in;
 pub use calls::is_spelled;

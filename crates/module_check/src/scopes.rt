@@ -1,7 +1,7 @@
 //! Scopes, which share what they have in common: each name is a node that leads to what was known before.
 
-ghost use Rattle.std.specs.Prelude.{◌≡◌, ◌≤◌, ◌+◌, ◌++◌, ◌∷◌, [], ℕ, List, length, map, IfOk, MatchBool, MatchOption};
-ghost use Rattle.erl_syntax.specs.Bindings.{Bound};
+ghost use Rattle.std.specs.Prelude.{◌≡◌, ◌≤◌, ◌+◌, ◌++◌, ◌∷◌, [], ℕ, List, length, IfOk, MatchBool, MatchOption};
+ghost use Rattle.erl_syntax.specs.Bindings.{Bound, names};
 ghost use Rattle.erl_syntax.specs.Scopes.{Scope, Danger, Found, IsKnown};
 ghost use Rattle.module_check.specs.Nodes.{Chain, Sees, Grown, bounds_of, bound_of, SeesUnsafe};
 
@@ -65,7 +65,10 @@ pub(crate) fn put_all<'a>(
     ensures put { IfOk result (λ last. (bs : List Bound) → Sees nodes.old.items before bs → Sees nodes.new.items last (bounds_of targets.now ++ bs)) }
 {
     let mut last = before;
-    for target in targets.iter().rev() {
+    let mut left = targets.len();
+    while left > 0 {
+        left -= 1;
+        let target = targets[left];
         last = put(nodes, last, target.name, target.at)?;
     }
     Ok(last)
@@ -102,35 +105,35 @@ pub(crate) fn append_all<'a>(
     Ok(last)
 }
 
-/// Puts a name in front of what is unsafe, where it is not known.
+/// Puts the variable in front of what is unsafe, where it is not known.
 fn endanger_one<'a>(
     nodes: &mut Vec<Node<'a>>,
     dangers: usize,
     known: usize,
-    name: &'a [u8],
+    target: Target<'a>,
 ) -> Result<usize, AllocError>
     ensures grown { IfOk result (λ last. Grown nodes.old.items nodes.new.items) }
-    ensures put { IfOk result (λ last. (ds : List Danger) (bs : List Bound) → SeesUnsafe nodes.old.items dangers ds → Sees nodes.old.items known bs → SeesUnsafe nodes.new.items last (ds ++ record { left_unsafe = name.entry.now ∷ []; known = bs } ∷ [])) }
+    ensures put { IfOk result (λ last. (ds : List Danger) (bs : List Bound) → SeesUnsafe nodes.old.items dangers ds → Sees nodes.old.items known bs → SeesUnsafe nodes.new.items last (ds ++ record { left_unsafe = (bound_of target.entry).name ∷ []; known = bs } ∷ [])) }
 {
-    match find(nodes, known, name) {
+    match find(nodes, known, target.name) {
         Some(_) => Ok(dangers),
-        None => put(nodes, dangers, name, Span { line: 0, column: 0 }),
+        None => put(nodes, dangers, target.name, target.at),
     }
 }
 
-/// What is unsafe behind a part that leaves these names so, by what is known where the part begins.
+/// What is unsafe behind a part that leaves these variables so, by what is known where the part begins.
 pub(crate) fn endanger<'a>(
     nodes: &mut Vec<Node<'a>>,
     dangers: usize,
     known: usize,
-    names: &[&'a [u8]],
+    targets: &[Target<'a>],
 ) -> Result<usize, AllocError>
     ensures grown { IfOk result (λ last. Grown nodes.old.items nodes.new.items) }
-    ensures put { IfOk result (λ last. (ds : List Danger) (bs : List Bound) → SeesUnsafe nodes.old.items dangers ds → Sees nodes.old.items known bs → SeesUnsafe nodes.new.items last (ds ++ record { left_unsafe = map (λ n. n.now) names.now; known = bs } ∷ [])) }
+    ensures put { IfOk result (λ last. (ds : List Danger) (bs : List Bound) → SeesUnsafe nodes.old.items dangers ds → Sees nodes.old.items known bs → SeesUnsafe nodes.new.items last (ds ++ record { left_unsafe = names (bounds_of targets.now); known = bs } ∷ [])) }
 {
     let mut last = dangers;
-    for name in names {
-        last = endanger_one(nodes, last, known, *name)?;
+    for target in targets {
+        last = endanger_one(nodes, last, known, *target)?;
     }
     Ok(last)
 }

@@ -1,0 +1,14 @@
+use Rattle.std.proofs.Common.{arith, subst, sym, ◌∙◌, refl, ◌≡◌, List, ap, length, ℕ, [], ◌∷◌, ◌++◌, take, drop, true, false}
+use Rattle.std.proofs.lemmas.Slice.Eq.{bytes_eq-Decides}
+use Rattle.std.proofs.lemmas.Result.{IfOk-weaker}
+use Rattle.erl_syntax.specs.Bindings.{Bound, names}
+use Rattle.erl_syntax.specs.Scopes.{Danger}
+use Rattle.module_check.specs.Nodes.{Sees, bound_of, bounds_of}
+use Rattle.module_check.proofs.Chained.{pushed, leads_start, leads_on, find_none, find_outside, find_here, grown_same, grown_twice, sees_put, append_known, append_new, append_more, bounds_all, bounds_left, endanger_known, endanger_new, sees_grown, unsafe_grown, sees_same, danger_none, danger_more, endanger_more, is_known_by, is_unknown_by}
+use Rattle.module_check.proofs.scopes.endanger.Goals as goal
+
+pub loop-target-init : goal.loop-target-init
+loop-target-init c = record { grown = grown_same c.args.nodes.now.items; put = λ ds bs u s. sees_same c.args.nodes.now.items c.args.dangers ds _ (danger_none ds bs) u }
+
+pub loop-target-preserved : goal.loop-target-preserved
+loop-target-preserved c = record { grown = grown_twice c.args.nodes.now.items c.loop-target.nodes.items c.endanger_one.new.nodes.items c.loop-target.invariant.grown c.in_ok-last.ensures.grown; put = λ ds bs u s. endanger_more c.endanger_one.new.nodes.items c.in_ok-last.last c.args.targets.now c.loop-target.target-index c.target-item.result ds bs (omega arith) c.target-item.is (c.in_ok-last.ensures.put _ bs (c.loop-target.invariant.put ds bs u s) (sees_grown c.args.nodes.now.items c.loop-target.nodes.items c.loop-target.invariant.grown c.args.known bs s)) }
