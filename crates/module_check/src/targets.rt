@@ -1,7 +1,7 @@
 ghost use Rattle.std.specs.Prelude.{◌≡◌, ◌++◌, IfOk};
 ghost use Rattle.erl_syntax.specs.Bindings.{names, targets, targets_of, segment_targets, vars_of, new_names, qual_unsafe};
 ghost use Rattle.module_check.specs.Nodes.{bounds_of};
-ghost use Rattle.module_check.specs.Unsafe.{unsafe_of, segment_unsafe, alts_unsafe, branches_unsafe, items_unsafe};
+ghost use Rattle.module_check.specs.Unsafe.{unsafe_of, segment_unsafe, alts_unsafe, branches_unsafe, items_unsafe, part_unsafe};
 
 use crate::scopes::Target;
 use erl_syntax::{Alt, Branch, Expr, Item, Pattern, Qual, Segment};
@@ -114,6 +114,17 @@ pub(crate) fn add_unsafe_of<'a>(
 }
 
 #[cycle(left)]
+fn add_segment<'a>(found: &mut Vec<Target<'a>>, segment: &'a Segment) -> Result<(), AllocError>
+    ensures { IfOk result (λ u. names (bounds_of found.new.items) ≡ names (bounds_of found.old.items) ++ part_unsafe segment.now) }
+{
+    add_unsafe(found, &segment.value)?;
+    match &segment.size {
+        Some(size) => add_unsafe(found, size),
+        None => Ok(()),
+    }
+}
+
+#[cycle(left)]
 fn add_segments<'a>(
     found: &mut Vec<Target<'a>>,
     segments: &'a [Segment],
@@ -121,10 +132,7 @@ fn add_segments<'a>(
     ensures { IfOk result (λ u. names (bounds_of found.new.items) ≡ names (bounds_of found.old.items) ++ segment_unsafe segments.now) }
 {
     for segment in segments {
-        add_unsafe(found, &segment.value)?;
-        if let Some(size) = &segment.size {
-            add_unsafe(found, size)?;
-        }
+        add_segment(found, segment)?;
     }
     Ok(())
 }
