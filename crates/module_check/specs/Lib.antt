@@ -2,4 +2,5 @@ pub mod Faults
 pub mod Nodes
 pub mod Order
 pub mod Spots
+pub mod Tasks
 pub mod Unsafe

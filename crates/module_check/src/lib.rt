@@ -8,6 +8,7 @@ mod names;
 mod order;
 mod scopes;
 mod targets;
+mod tasks;
 
 pub use built_ins::built_in;
 pub use calls::is_spelled;

@@ -1,0 +1,7 @@
+use Rattle.std.proofs.Common.{arith, subst, sym, ◌∙◌, refl, ◌≡◌, List, ap}
+use Rattle.std.proofs.lemmas.Result.{IfOk-weaker}
+use Rattle.module_check.proofs.Tasked.{adds_one, adds_nodes, means_behind, means_known}
+use Rattle.module_check.proofs.tasks.Walk.push.Goals as goal
+
+pub returns : goal.returns
+returns c = ?
