@@ -188,3 +188,47 @@ means_guard nodes t s h = record { known = h.known; dangers = h.dangers; guarded
 
 pub means_match : (nodes : List Node) (t : Setting) (s : Scope) → Means nodes t s → Means nodes (record t { sizes = t.known }) (to_match s)
 means_match nodes t s h = record { known = h.known; dangers = h.dangers; guarded = h.guarded }
+
+pub rev_left : {X : Type 0} (xs : List X) (i j : ℕ) (one : X) → j ≡ i + 1 → i < length xs → one ≡ get_or xs i one → reverse (take j xs) ≡ one ∷ reverse (take i xs)
+rev_left xs i j one k l e = ap (λ n. reverse (take n xs)) k ∙ ap reverse (take_more xs i one l ∙ ap (λ z. take i xs ++ z ∷ []) (sym e)) ∙ reverse-append (take i xs) (one ∷ [])
+
+pub rev_passed : {X : Type 0} (xs : List X) (i j : ℕ) (one : X) → j ≡ i + 1 → i < length xs → one ≡ get_or xs i one → reverse (drop i xs) ≡ reverse (drop j xs) ++ one ∷ []
+rev_passed xs i j one k l e = ap reverse (drop_more xs i one l ∙ ap (λ z. z ∷ drop (i + 1) xs) (sym e)) ∙ reverse-append (one ∷ []) (drop (i + 1) xs) ∙ ap (λ n. reverse (drop n xs) ++ one ∷ []) (sym k)
+
+module _ {X : Type 0} (At : List X → X → List X → List Spot) (xs : List X) where
+  pub back_start : (w : Walk) (j : ℕ) → j ≡ length xs → Far w w At [] (reverse (drop j xs)) (reverse (take j xs)) (reverse xs)
+  back_start w j e =
+      let P : List X → Type 0 = λ zs. Far w w At [] (reverse zs) (reverse (take j xs)) (reverse xs) in
+      let Q : List X → Type 0 = λ zs. Far w w At [] [] (reverse zs) (reverse xs) in
+      subst P (sym (drop_all xs j (omega arith))) (subst Q (sym (take_all j xs (omega arith))) (far_start At [] (reverse xs) w))
+
+  pub back_on : (w v u : Walk) (i j : ℕ) (one : X) → j ≡ i + 1 → i < length xs → one ≡ get_or xs i one → Far w v At [] (reverse (drop j xs)) (reverse (take j xs)) (reverse xs) → Adds v u (At (reverse (drop j xs)) one (reverse (take i xs))) → Far w u At [] (reverse (drop i xs)) (reverse (take i xs)) (reverse xs)
+  back_on w v u i j one k l e f a =
+      let P : List X → Type 0 = λ zs. Far w v At [] (reverse (drop j xs)) zs (reverse xs) in
+      let Q : List X → Type 0 = λ zs. Far w u At [] zs (reverse (take i xs)) (reverse xs) in
+      subst Q (sym (rev_passed xs i j one k l e)) (far_step At [] (reverse xs) w v u (reverse (drop j xs)) one (reverse (take i xs)) (subst P (rev_left xs i j one k l e) f) a)
+
+  pub back_end : (w v : Walk) (j : ℕ) → j ≡ 0 → Far w v At [] (reverse (drop j xs)) (reverse (take j xs)) (reverse xs) → Adds w v (each At [] (reverse xs))
+  back_end w v j e f =
+      let P : ℕ → Type 0 = λ n. Far w v At [] (reverse (drop n xs)) (reverse (take n xs)) (reverse xs) in
+      far_finish At [] (reverse xs) w v (reverse xs) (subst P e f)
+
+pub back_targets : (ps : List Pattern) (i j : ℕ) (pt : Pattern) (s : Scope) → j ≡ i + 1 → i < length ps → pt ≡ get_or ps i pt → with_known (targets pt) (with_known (targets_of (reverse (drop j ps))) s) ≡ with_known (targets_of (reverse (drop i ps))) s
+back_targets ps i j pt s k l e = past_more s (reverse (drop j ps)) pt ∙ ap (λ zs. with_known (targets_of zs) s) (sym (rev_passed ps i j pt k l e))
+
+pub means_item : (nodes : List Node) (known rest : Setting) (s : Scope) (i : Item) → Means nodes known (with_known (targets_of (reverse i.patterns)) s) → Means nodes rest (behind (i.value ∷ []) s) → Means nodes (record rest { known = known.known }) (past_items (i ∷ []) s)
+means_item nodes known rest s i h k = record { known = h.known; dangers = k.dangers; guarded = k.guarded }
+
+pub sees_at : (nodes : List Node) (j k : ℕ) (bs : List Bound) → j ≡ k → Sees nodes k bs → Sees nodes j bs
+sees_at nodes j k bs e h = let P : ℕ → Type 0 = λ n. Sees nodes n bs in subst P (sym e) h
+
+pub means_front : {X : Type 0} (nodes : List Node) (t : Setting) (F : List X → Scope) (xs ys : List X) → xs ≡ ys → Means nodes t (F xs) → Means nodes t (F ys)
+means_front {X} nodes t F xs ys e h = let P : List X → Type 0 = λ zs. Means nodes t (F zs) in subst P e h
+
+pub back_none : (nodes : List Node) (t : Setting) (ps : List Pattern) (j : ℕ) (s : Scope) → j ≡ length ps → Means nodes t s → Means nodes t (with_known (targets_of (reverse (drop j ps))) s)
+back_none nodes t ps j s e h =
+    let P : List Pattern → Type 0 = λ zs. Means nodes t (with_known (targets_of (reverse zs)) s) in
+    subst P (sym (drop_all ps j (omega arith))) (means_same nodes t s (with_known [] s) (sym (with_none s)) h)
+
+pub back_done : (nodes : List Node) (t : Setting) (ps : List Pattern) (j : ℕ) (s : Scope) → j ≡ 0 → Means nodes t (with_known (targets_of (reverse (drop j ps))) s) → Means nodes t (with_known (targets_of (reverse ps)) s)
+back_done nodes t ps j s e h = let P : ℕ → Type 0 = λ n. Means nodes t (with_known (targets_of (reverse (drop n ps))) s) in subst P e h

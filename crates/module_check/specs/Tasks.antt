@@ -1,6 +1,8 @@
 -- What is left to look at: parts with what is known where they stand.
-use Rattle.std.specs.Prelude.{◌≡◌, ℕ, Bool, List, [], ◌∷◌, ◌++◌}
-use Rattle.erl_syntax.specs.Bindings.{Bound}
+use Rattle.std.specs.Prelude.{◌≡◌, ℕ, Bool, List, [], ◌∷◌, ◌++◌, Option, Some, None}
+use Rattle.erl_syntax.specs.Bindings.{Bound, new_names}
+use Rattle.erl_syntax.specs.declared.expr.Expr.{Expr}
+use Rattle.erl_syntax.specs.declared.qual.Qual.{Qual}
 use Rattle.erl_syntax.specs.Scopes
 use Rattle.erl_syntax.specs.Scopes.{Scope, AnExpr, APattern, ABody, ASegment}
 use Rattle.erl_syntax.specs.declared.typing.SideUse.TheVariants as side
@@ -11,7 +13,7 @@ use Rattle.module_check.specs.declared.tasks.Setting.{Setting}
 use Rattle.module_check.specs.declared.tasks.Task.{Task}
 use Rattle.module_check.specs.declared.tasks.Walk.{Walk}
 use Rattle.module_check.specs.Nodes.{Sees, SeesUnsafe, Grown}
-use Rattle.module_check.specs.Spots.{Spot, size_scope}
+use Rattle.module_check.specs.Spots.{Spot, spot, size_scope}
 
 abbrev pub part_of : Part → Scopes.Part
 part_of (t.Expr e) = AnExpr e.now
@@ -52,3 +54,20 @@ pub record Adds (old new : Walk) (ds : List Spot) : Type 0 where
   pub added : List Task
   pub is : new.tasks.items ≡ old.tasks.items ++ added
   pub fit : AllFit new.nodes.items added ds
+
+-- where these variables of a bit pattern stand further left
+abbrev pub passed : List Bound → Scope → Scope
+passed bs s = record s { known = s.known ++ bs; left = bs }
+
+-- the setting stands for the scope, and what it says of sizes is what a size sees there
+pub record Passes (nodes : List Node) (setting : Setting) (s : Scope) : Type 0 where
+  pub means : Means nodes setting s
+  pub sizes : Sees nodes setting.sizes (size_scope s).known
+
+-- where the new variables of a qualifier hide others
+abbrev pub with_new : Qual → Scope → Scope
+with_new g s = record s { known = new_names g ++ s.known }
+
+abbrev pub size_in : Scope → Option Expr → List Spot
+size_in s None = []
+size_in s (Some e) = spot s (AnExpr e) ∷ []
