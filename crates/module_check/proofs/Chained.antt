@@ -37,7 +37,7 @@ itself bs = record { to = λ n z h. h; from = λ n z h. h }
 pub chained : (bs cs ds : List Bound) → Agree bs cs → Agree cs ds → Agree bs ds
 chained bs cs ds a b = record { to = λ n z h. b.to n z (a.to n z h); from = λ n z h. a.from n z (b.from n z h) }
 
-known_cases : (bs : List Bound) (name : List ℕ) → IsKnown bs name ⊎ (IsKnown bs name → ⊥)
+pub known_cases : (bs : List Bound) (name : List ℕ) → IsKnown bs name ⊎ (IsKnown bs name → ⊥)
 known_cases [] name = inr (λ h. none_in name h)
 known_cases (b ∷ bs) name = elim (test (bytes_eq b.name name)) [
     | inl t ↦ inl (let P : List ℕ → Type 0 = λ n. IsKnown (b ∷ bs) n in subst P ((bytes_eq-Decides b.name name).0 t) (Contains-head b.name (names bs)))
@@ -324,3 +324,13 @@ is_known_by bs cs name at a h = found_known cs name at (a.to name at h)
 
 pub is_unknown_by : (bs cs : List Bound) (name : List ℕ) → Agree bs cs → (IsKnown bs name → ⊥) → IsKnown cs name → ⊥
 is_unknown_by bs cs name a h k = h (same_known cs bs name (flip bs cs a) k)
+
+pub same_name : (a b : List ℕ) → (a ≡ b) ⊎ (a ≡ b → ⊥)
+same_name a b = elim (test (bytes_eq a b)) [
+    | inl t ↦ inl ((bytes_eq-Decides a b).0 t)
+    | inr t ↦ inr (λ e. let f : true ≡ false = sym ((bytes_eq-Decides a b).1 e) ∙ t in cc)
+  ]
+  where
+    test : (r : Bool) → (r ≡ true) ⊎ (r ≡ false)
+    test true = inl refl
+    test false = inr refl

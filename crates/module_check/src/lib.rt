@@ -6,6 +6,7 @@ mod calls;
 mod forms;
 mod names;
 mod order;
+mod own;
 mod scopes;
 mod targets;
 mod tasks;

@@ -1,17 +1,17 @@
 //! What is left to look at: parts of a function with what is known where they stand.
 
-ghost use Rattle.std.specs.Prelude.{◌≡◌, ◌++◌, ◌∷◌, [], List, IfOk, reverse, length, drop, ◌<◌, ◌+◌};
+ghost use Rattle.std.specs.Prelude.{◌≡◌, ◌++◌, ◌∷◌, [], Bool, List, IfOk, reverse, length, drop, ◌<◌, ◌+◌};
 ghost use Rattle.erl_syntax.specs.Bindings.{Bound, targets, targets_of};
 ghost use Rattle.erl_syntax.specs.declared.clause.Alt.{out-Alt};
 ghost use Rattle.erl_syntax.specs.declared.clause.Branch.{out-Branch};
-ghost use Rattle.erl_syntax.specs.declared.typing.SideUse.TheVariants.{Build};
+ghost use Rattle.erl_syntax.specs.declared.typing.SideUse.TheVariants.{Build, Generator};
 ghost use Rattle.erl_syntax.specs.declared.segment.Segment.{Segment};
 ghost use Rattle.erl_syntax.specs.declared.pattern.Pattern.{Pattern};
-ghost use Rattle.erl_syntax.specs.Scopes.{Scope, behind, with_known, in_guard, to_match, to_generate, past_patterns, past_segments, past_items, past_quals, generated, sizes_of, is_empty};
+ghost use Rattle.erl_syntax.specs.Scopes.{Scope, AnExpr, APattern, ASegment, behind, with_known, in_guard, to_match, to_generate, past_patterns, past_segments, past_items, past_quals, generated, sizes_of, is_empty};
 ghost use Rattle.erl_syntax.specs.declared.expr.Expr.{Expr};
 ghost use Rattle.module_check.specs.Nodes.{Sees, bound_of, bounds_of};
-ghost use Rattle.module_check.specs.Spots.{Spot, each, expr_in, same_in, tests_in, guard_in, pattern_in, matched_in, item_in, items_in, built_in_turn, segment_in, alt_layer_in, alt_in, branch_layer_in, branch_in, qual_in, quals_in, comprehension_in, inside_expr, inside_pattern, inside_segment, inside, clause_in, clauses_in};
-ghost use Rattle.module_check.specs.Tasks.{Means, Fits, Adds, Passes, passed, with_new, size_in};
+ghost use Rattle.module_check.specs.Spots.{Spot, spot, each, expr_in, same_in, tests_in, guard_in, pattern_in, matched_in, item_in, items_in, built_in_turn, segment_in, alt_layer_in, alt_in, branch_layer_in, branch_in, qual_in, quals_in, comprehension_in, inside_expr, inside_pattern, size_scope, inside_segment, inside, clause_in, clauses_in};
+ghost use Rattle.module_check.specs.Tasks.{Means, SeesSizes, Fits, Adds, Passes, passed, with_new, size_in};
 
 use crate::scopes::{Node, Target, append, append_all, endanger, find, put, put_all};
 use crate::targets::{add_new, add_qual_unsafe, add_segment_target, add_targets, add_unsafe};
@@ -317,28 +317,53 @@ impl<'a> Walk<'a> {
         Ok(())
     }
 
-    /// A qualifier.
-    fn push_qual(&mut self, setting: Setting, qual: &'a Qual) -> Result<(), AllocError>
-        ensures { IfOk result (λ u. (s : Scope) → Means self.old.nodes.items setting s → Adds self.old self.new (qual_in s qual.now)) }
+    /// A generator over a list.
+    fn push_generator(
+        &mut self,
+        setting: Setting,
+        source: &'a Expr,
+        pattern: &'a Pattern,
+    ) -> Result<(), AllocError>
+        ensures { IfOk result (λ u. (s : Scope) → Means self.old.nodes.items setting s → Adds self.old self.new (spot s (AnExpr source.now) ∷ spot (to_generate s) (APattern pattern.now) ∷ [])) }
     {
         let generated = Setting {
             known: 0,
             sizes: setting.known,
             ..setting
         };
+        self.push(setting, Part::Expr(source))?;
+        self.push(generated, Part::Pattern(pattern))
+    }
+
+    /// A generator over bits.
+    fn push_bit_generator(
+        &mut self,
+        setting: Setting,
+        source: &'a Expr,
+        segments: &'a [Segment],
+    ) -> Result<(), AllocError>
+        ensures { IfOk result (λ u. (s : Scope) → Means self.old.nodes.items setting s → Adds self.old self.new (spot s (AnExpr source.now) ∷ each (segment_in Generator (to_generate s)) [] segments.now)) }
+    {
+        let generated = Setting {
+            known: 0,
+            sizes: setting.known,
+            ..setting
+        };
+        self.push(setting, Part::Expr(source))?;
+        self.push_segments(SideUse::Generator, generated, segments)
+    }
+
+    /// A qualifier.
+    fn push_qual(&mut self, setting: Setting, qual: &'a Qual) -> Result<(), AllocError>
+        ensures { IfOk result (λ u. (s : Scope) → Means self.old.nodes.items setting s → Adds self.old self.new (qual_in s qual.now)) }
+    {
         match qual {
             Qual::Items {
                 pattern, source, ..
-            } => {
-                self.push(setting, Part::Expr(source))?;
-                self.push(generated, Part::Pattern(pattern))
-            }
+            } => self.push_generator(setting, source, pattern),
             Qual::Bits {
                 segments, source, ..
-            } => {
-                self.push(setting, Part::Expr(source))?;
-                self.push_segments(SideUse::Generator, generated, segments.items())
-            }
+            } => self.push_bit_generator(setting, source, segments.items()),
             Qual::Filter { test, .. } => self.push(setting, Part::Expr(test)),
         }
     }
@@ -504,6 +529,34 @@ impl<'a> Walk<'a> {
         }
     }
 
+    /// What stands inside a segment of a bit pattern.
+    fn push_sized(&mut self, setting: Setting, segment: &'a Segment) -> Result<(), AllocError>
+        ensures { IfOk result (λ u. (s : Scope) → Means self.old.nodes.items setting s → Sees self.old.nodes.items setting.sizes (size_scope s).known → Adds self.old self.new (size_in (size_scope s) segment.now.size)) }
+    {
+        let sized = Setting {
+            known: setting.sizes,
+            guarded: true,
+            ..setting
+        };
+        self.push_size(sized, &segment.size)
+    }
+
+    /// What stands inside a segment.
+    fn push_segment(
+        &mut self,
+        setting: Setting,
+        side: SideUse,
+        segment: &'a Segment,
+    ) -> Result<(), AllocError>
+        ensures { IfOk result (λ u. (s : Scope) (last : Bool) → Means self.old.nodes.items setting s → SeesSizes self.old.nodes.items setting.sizes s (ASegment side last segment.now) → Adds self.old self.new (inside_segment s side segment.now)) }
+    {
+        match side {
+            SideUse::Build => self.push_value(setting, segment),
+            SideUse::Match => self.push_sized(setting, segment),
+            SideUse::Generator => self.push_sized(setting, segment),
+        }
+    }
+
     /// What stands right inside the part of a task.
     pub fn push_inside(&mut self, task: Task<'a>) -> Result<(), AllocError>
         ensures { IfOk result (λ u. (d : Spot) → Fits self.old.nodes.items task.entry d → Adds self.old self.new (inside d.scope d.part)) }
@@ -513,15 +566,7 @@ impl<'a> Walk<'a> {
             Part::Expr(expr) => self.push_expr(setting, expr),
             Part::Pattern(pattern) => self.push_pattern(setting, pattern),
             Part::Body(items) => self.push_items(setting, items),
-            Part::Segment(SideUse::Build, _, segment) => self.push_value(setting, segment),
-            Part::Segment(_, _, segment) => {
-                let sized = Setting {
-                    known: setting.sizes,
-                    guarded: true,
-                    ..setting
-                };
-                self.push_size(sized, &segment.size)
-            }
+            Part::Segment(side, _, segment) => self.push_segment(setting, side, segment),
         }
     }
 
