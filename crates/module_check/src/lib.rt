@@ -10,6 +10,7 @@ mod own;
 mod scopes;
 mod targets;
 mod tasks;
+mod walk;
 
 pub use built_ins::built_in;
 pub use calls::is_spelled;

@@ -1,6 +1,6 @@
 //! The faults of a part by itself.
 
-ghost use Rattle.std.specs.Prelude.{◌≡◌, MatchBool, List};
+ghost use Rattle.std.specs.Prelude.{◌≡◌, MatchBool, List, not, ◌&&◌};
 ghost use Rattle.erl_syntax.specs.Bindings.{Bound};
 ghost use Rattle.erl_syntax.specs.Scopes.{Scope, IsKnown};
 ghost use Rattle.erl_syntax.specs.declared.expr.Expr.{out-Expr};
@@ -33,14 +33,23 @@ fn unsafe_fault(nodes: &[Node], dangers: usize, at: Span, name: &[u8]) -> Option
     fault_if(put, at, CheckCause::UnsafeVariable)
 }
 
+fn is_neither(first: bool, second: bool) -> bool
+    ensures { result ≡ (not first && not second) }
+{
+    !first && !second
+}
+
 /// That a variable that is read is unbound or unsafe.
 fn read_fault(nodes: &[Node], setting: Setting, at: Span, name: &[u8]) -> Option<CheckFault>
     ensures { (s : Scope) → Means nodes.now setting s → IsLeast (ReadFault s at name.now) result }
 {
     let known = is_put(nodes, setting.known, name);
     let endangered = is_put(nodes, setting.dangers, name);
-    let unbound = !known && !endangered;
-    let unbound = fault_if(unbound, at, CheckCause::UnboundVariable);
+    let unbound = fault_if(
+        is_neither(known, endangered),
+        at,
+        CheckCause::UnboundVariable,
+    );
     first_of(unbound, unsafe_fault(nodes, setting.dangers, at, name))
 }
 
