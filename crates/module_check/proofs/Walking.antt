@@ -1,7 +1,7 @@
 -- Looking at all that stands in a function.
-use Rattle.std.proofs.Common.{◌≡◌, ◌≢◌, ℕ, suc, ◌+◌, ◌<◌, ◌≤◌, Bool, true, false, List, [], ◌∷◌, ◌++◌, length, get_or, Option, Some, None, refl, sym, ◌∙◌, ap, subst, ◌⊎◌, inl, inr, arith}
+use Rattle.std.proofs.Common.{◌≡◌, ◌≢◌, ℕ, suc, ◌+◌, ◌<◌, ◌≤◌, Bool, true, false, List, [], ◌∷◌, ◌++◌, length, get_or, take, Option, Some, None, refl, sym, ◌∙◌, ap, subst, ◌⊎◌, inl, inr, arith}
 use Rattle.std.specs.List.{Contains}
-use Rattle.std.proofs.lemmas.List.{append-nil, append_assoc}
+use Rattle.std.proofs.lemmas.List.{append-nil, append_assoc, get_or_default}
 use Rattle.std.proofs.lemmas.List.Elements.{Contains-append_left, Contains-append_right, Contains-append_cases, Contains-push}
 use Rattle.erl_syntax.specs.declared.span.Span.{Span}
 use Rattle.erl_syntax.specs.declared.module.Module.{Module}
@@ -11,12 +11,12 @@ use Rattle.erl_syntax.specs.declared.checking.CheckFault.{CheckFault}
 use Rattle.module_check.specs.declared.scopes.Node.{Node}
 use Rattle.module_check.specs.declared.tasks.Task.{Task}
 use Rattle.module_check.specs.declared.tasks.Walk.{Walk}
-use Rattle.module_check.specs.Order.{NotAfter, IsFirstOf, IsLeast}
+use Rattle.module_check.specs.Order.{NotAfter, IsFirstOf, IsLeast, Either}
 use Rattle.module_check.specs.Nodes.{Grown}
 use Rattle.module_check.specs.Spots.{Spot, inside, clauses_in, Under, here, deeper, IsUnder}
 use Rattle.module_check.specs.Tasks.{Fits, AllFit, Adds}
-use Rattle.module_check.specs.Faults.{Own, InnerFault}
-use Rattle.module_check.proofs.Firsts.{in_turn}
+use Rattle.module_check.specs.Faults.{Own, InnerFault, ClausesFault, FunctionFault}
+use Rattle.module_check.proofs.Firsts.{in_turn, same_least, least_of_both}
 use Rattle.module_check.proofs.Spots.{Contains-head, none_in, only_one}
 use Rattle.module_check.proofs.Complete.{one_more}
 use Rattle.module_check.proofs.Tasked.{all_grown, all_joined}
@@ -46,7 +46,7 @@ pub record Last (nodes : List Node) (tasks : List Task) (task : Task) (spots : L
   pub fit : AllFit nodes tasks before
   pub fits : Fits nodes task one
 
-last_of : (nodes : List Node) (tasks : List Task) (task : Task) (spots : List Spot) → AllFit nodes (tasks ++ task ∷ []) spots → Last nodes tasks task spots
+pub last_of : (nodes : List Node) (tasks : List Task) (task : Task) (spots : List Spot) → AllFit nodes (tasks ++ task ∷ []) spots → Last nodes tasks task spots
 last_of nodes [] task [] h = absurd h
 last_of nodes [] task (d ∷ []) h = record { before = []; one = d; is = refl; fit = tt; fits = h.0 }
 last_of nodes [] task (d ∷ e ∷ ds) h = absurd h.1
@@ -145,3 +145,14 @@ finish m f nodes tasks best e l =
       ended : (r : Option CheckFault) → Holds (InnerFault m f) r → ((at : Span) (why : CheckCause) → InnerFault m f at why → Covers r at why) → IsLeast (InnerFault m f) r
       ended None h k = k
       ended (Some a) h k = (h, k)
+
+pub function_least : (m : Module) (k : ℕ) (f : Function) (before : List Function) (a b r : Option CheckFault) → k < length m.functions → f ≡ get_or m.functions k f → before ≡ take k m.functions
+    → IsLeast (ClausesFault before f f.clauses) a → IsLeast (InnerFault m f) b → IsFirstOf a b r → IsLeast (FunctionFault m k) r
+function_least m k f before a b r l e g p q h =
+    let P : List Function → Type 0 = λ zs. IsLeast (ClausesFault zs f f.clauses) a in
+    let One = Either (ClausesFault (take k m.functions) f f.clauses) (InnerFault m f) in
+    same_least One (FunctionFault m k) r
+      (λ at why z. (f, ((l, e), z)))
+      (λ at why z. (let s : z.0 ≡ f = z.1.0.1 ∙ get_or_default m.functions k z.0 f l ∙ sym e in
+        let Q : Function → Type 0 = λ v. Either (ClausesFault (take k m.functions) v v.clauses) (InnerFault m v) at why in subst Q s z.1.1))
+      (least_of_both (ClausesFault (take k m.functions) f f.clauses) (InnerFault m f) a b r (subst P g p) q h)

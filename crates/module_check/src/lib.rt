@@ -3,6 +3,7 @@
 
 mod built_ins;
 mod calls;
+mod checking;
 mod forms;
 mod names;
 mod order;
@@ -14,6 +15,7 @@ mod walk;
 
 pub use built_ins::built_in;
 pub use calls::is_spelled;
+pub use checking::{Checked, check};
 pub use names::{has_function, is_before, is_exported};
 pub use order::first_of;
 
