@@ -1,7 +1,6 @@
 -- Scopes that share their ends.
-use Rattle.std.proofs.Common.{◌≡◌, ◌≢◌, ℕ, suc, zero, ◌+◌, ◌-◌, ◌<◌, ◌≤◌, Bool, true, false, List, [], ◌∷◌, ◌++◌, map, length, get_or, Option, Some, None, refl, sym, ◌∙◌, ap, subst, ◌⊎◌, inl, inr, arith, take, drop, min}
+use Rattle.std.proofs.Common.{◌≡◌, ℕ, suc, ◌+◌, ◌-◌, ◌<◌, ◌≤◌, Bool, true, false, List, [], ◌∷◌, ◌++◌, length, get_or, refl, sym, ◌∙◌, ap, subst, ◌⊎◌, inl, inr, arith, take, drop, min}
 use Rattle.std.specs.List.{Contains}
-use Rattle.std.specs.Option.{MatchOption}
 use Rattle.std.specs.Str.{bytes_eq}
 use Rattle.std.proofs.lemmas.List.{append_assoc, append-nil, map-append, length-append, get_or_append_left, get_or_at, get_or_default, take_more, take_all, drop_more}
 use Rattle.std.proofs.lemmas.List.Elements.{Contains-append_cases, Contains-append_left, Contains-append_right, Contains-push}
@@ -11,7 +10,6 @@ use Rattle.erl_syntax.specs.Scopes.{Danger, Found, IsKnown, IsUnsafe}
 use Rattle.erl_syntax.specs.declared.span.Span.{Span}
 use Rattle.module_check.specs.declared.scopes.Node.{Node}
 use Rattle.module_check.specs.declared.scopes.Target.{Target}
-use Rattle.module_check.specs.Spots.{place_of}
 use Rattle.module_check.specs.Nodes.{Chain, none, more, Agree, Sees, SeesUnsafe, Grown, bound_of, bounds_of}
 use Rattle.module_check.proofs.Spots.{Contains-head, Contains-tail, none_in, only_one}
 use Rattle.module_check.proofs.Standing.{found_place, known_found}
@@ -40,15 +38,15 @@ chained bs cs ds a b = record { to = λ n z h. b.to n z (a.to n z h); from = λ 
 pub known_cases : (bs : List Bound) (name : List ℕ) → IsKnown bs name ⊎ (IsKnown bs name → ⊥)
 known_cases [] name = inr (λ h. none_in name h)
 known_cases (b ∷ bs) name = elim (test (bytes_eq b.name name)) [
-    | inl t ↦ inl (let P : List ℕ → Type 0 = λ n. IsKnown (b ∷ bs) n in subst P ((bytes_eq-Decides b.name name).0 t) (Contains-head b.name (names bs)))
-    | inr t ↦ elim (known_cases bs name) [
-      | inl k ↦ inl (Contains-tail b.name (names bs) name k)
-      | inr k ↦ inr (λ h. elim (Contains-append_cases (b.name ∷ []) (names bs) name h) [
-        | inl m ↦ (let f : true ≡ false = sym ((bytes_eq-Decides b.name name).1 (only_one b.name name m)) ∙ t in cc)
-        | inr m ↦ k m
-      ])
-    ]
+  | inl t ↦ inl (let P : List ℕ → Type 0 = λ n. IsKnown (b ∷ bs) n in subst P ((bytes_eq-Decides b.name name).0 t) (Contains-head b.name (names bs)))
+  | inr t ↦ elim (known_cases bs name) [
+    | inl k ↦ inl (Contains-tail b.name (names bs) name k)
+    | inr k ↦ inr (λ h. elim (Contains-append_cases (b.name ∷ []) (names bs) name h) [
+      | inl m ↦ (let f : true ≡ false = sym ((bytes_eq-Decides b.name name).1 (only_one b.name name m)) ∙ t in cc)
+      | inr m ↦ k m
+    ])
   ]
+]
   where
     test : (r : Bool) → (r ≡ true) ⊎ (r ≡ false)
     test true = inl refl
@@ -68,18 +66,18 @@ pub found_joined : (bs cs : List Bound) (name : List ℕ) (at : Span) → Found 
 found_joined [] cs name at h = inr ((λ k. none_in name k), h)
 found_joined (b ∷ bs) cs name at (inl h) = inl (inl h)
 found_joined (b ∷ bs) cs name at (inr h) = elim (found_joined bs cs name at h.1) [
-    | inl k ↦ inl (inr (h.0, k))
-    | inr k ↦ inr ((λ m. elim (Contains-append_cases (b.name ∷ []) (names bs) name m) [ inl z ↦ h.0 (only_one b.name name z) | inr z ↦ k.0 z ]), k.1)
-  ]
+  | inl k ↦ inl (inr (h.0, k))
+  | inr k ↦ inr ((λ m. elim (Contains-append_cases (b.name ∷ []) (names bs) name m) [ inl z ↦ h.0 (only_one b.name name z) | inr z ↦ k.0 z ]), k.1)
+]
 
 pub agree_joined : (xs bs cs ds : List Bound) → Agree xs bs → Agree cs ds → Agree (xs ++ cs) (bs ++ ds)
 agree_joined xs bs cs ds a b = record { to = λ n z h. one xs bs cs ds a b n z h; from = λ n z h. one bs xs ds cs (flip xs bs a) (flip cs ds b) n z h }
   where
     one : (xs bs cs ds : List Bound) → Agree xs bs → Agree cs ds → (n : List ℕ) (z : Span) → Found (xs ++ cs) n z → Found (bs ++ ds) n z
     one xs bs cs ds a b n z h = elim (found_joined xs cs n z h) [
-        | inl k ↦ found_left bs ds n z (a.to n z k)
-        | inr k ↦ found_right bs ds n z (λ m. k.0 (same_known bs xs n (flip xs bs a) m)) (b.to n z k.1)
-      ]
+      | inl k ↦ found_left bs ds n z (a.to n z k)
+      | inr k ↦ found_right bs ds n z (λ m. k.0 (same_known bs xs n (flip xs bs a) m)) (b.to n z k.1)
+    ]
 
 -- a variable that is known already counts for nothing behind
 pub agree_known : (bs : List Bound) (b : Bound) → IsKnown bs b.name → Agree bs (bs ++ b ∷ [])
@@ -115,9 +113,9 @@ pub chain_grown : (old new : List Node) → Grown old new → (k : ℕ) (bs : Li
 chain_grown old new g _ _ none = none
 chain_grown old new g _ _ (more k n bs l e b h) =
     more k n bs
-      (let P : List Node → Type 0 = λ zs. k < length zs in subst P (sym g.is) (simp length-append (omega arith)))
-      (ap (λ zs. get_or zs k n) g.is ∙ get_or_append_left old g.more n k l ∙ e)
-      b (chain_grown old new g n.before bs h)
+    (let P : List Node → Type 0 = λ zs. k < length zs in subst P (sym g.is) (simp length-append (omega arith)))
+    (ap (λ zs. get_or zs k n) g.is ∙ get_or_append_left old g.more n k l ∙ e)
+    b (chain_grown old new g n.before bs h)
 
 pub grown_twice : (a b c : List Node) → Grown a b → Grown b c → Grown a c
 grown_twice a b c g h = record { more = g.more ++ h.more; is = h.is ∙ ap (λ zs. zs ++ h.more) g.is ∙ append_assoc a g.more h.more }
@@ -142,7 +140,7 @@ pushed old new k last n bs e l b h =
     let R : ℕ → Type 0 = λ m. Chain new m bs in
     let which : suc (length old) ≡ last = omega arith in
     subst Q which (more (length old) n bs (omega arith) (ap (λ zs. get_or zs (length old) n) e ∙ get_or_at old n [] n (length old) refl)
-      (let w = within old k bs h in omega arith) (subst R (sym b) (chain_grown old new (record { more = n ∷ []; is = e }) k bs h)))
+    (let w = within old k bs h in omega arith) (subst R (sym b) (chain_grown old new (record { more = n ∷ []; is = e }) k bs h)))
 
 -- what is found at a node or further on
 pub record Leads (nodes : List Node) (last rest : ℕ) (name : List ℕ) : Type 0 where
@@ -183,11 +181,11 @@ pub find_here : (nodes : List Node) (last rest : ℕ) (name : List ℕ) (n : Nod
 find_here nodes last rest name n p e q h bs ch =
     let t = h.leads bs ch in
     t.1.1.0 n.at (at_node t.0 (opened nodes (rest - 1) rest t.0 (omega arith) t.1.0))
-    where
-      at_node : (cs : List Bound) → AtNode nodes (rest - 1) cs → Found cs name n.at
-      at_node _ (node o cs l g b k) =
-          let s : o ≡ n = sym g ∙ get_or_default nodes (rest - 1) o n l ∙ sym e in
-          inl (ap (λ (z : Node). z.name.now) s ∙ q, ap (λ (z : Node). z.at) s)
+  where
+    at_node : (cs : List Bound) → AtNode nodes (rest - 1) cs → Found cs name n.at
+    at_node _ (node o cs l g b k) =
+        let s : o ≡ n = sym g ∙ get_or_default nodes (rest - 1) o n l ∙ sym e in
+        inl (ap (λ (z : Node). z.name.now) s ∙ q, ap (λ (z : Node). z.at) s)
 
 pub leads_on : (nodes : List Node) (last rest next : ℕ) (name : List ℕ) (n : Node) → 0 < rest → n ≡ get_or nodes (rest - 1) n → (n.name.now ≡ name → ⊥) → next ≡ min n.before (rest - 1) → Leads nodes last rest name → Leads nodes last next name
 leads_on nodes last rest next name n p e q m h = record { leads = λ bs ch. (let t = h.leads bs ch in at_node bs t.0 t.1.1.0 t.1.1.1 (opened nodes (rest - 1) rest t.0 (omega arith) t.1.0)) }
@@ -210,9 +208,9 @@ kept_danger ds es name (d, (h, k)) = (d, (Contains-append_left ds es d h, k))
 
 pub unsafe_split : (ds : List Danger) (d : Danger) (name : List ℕ) → IsUnsafe (ds ++ d ∷ []) name → IsUnsafe ds name ⊎ (Contains d.left_unsafe name × (IsKnown d.known name → ⊥))
 unsafe_split ds d name (e, (h, k)) = elim (Contains-append_cases ds (d ∷ []) e h) [
-    | inl z ↦ inl (e, (z, k))
-    | inr z ↦ inr (let P : Danger → Type 0 = λ v. Contains v.left_unsafe name × (IsKnown v.known name → ⊥) in subst P (sym (only_one d e z)) k)
-  ]
+  | inl z ↦ inl (e, (z, k))
+  | inr z ↦ inr (let P : Danger → Type 0 = λ v. Contains v.left_unsafe name × (IsKnown v.known name → ⊥) in subst P (sym (only_one d e z)) k)
+]
 
 -- the same dangers
 pub record SameDangers (ds es : List Danger) : Type 0 where
@@ -292,7 +290,7 @@ append_known nodes k name at az bs f s =
 pub append_new : (old new : List Node) (k last : ℕ) (name : List ℕ) (at : Span) (bs : List Bound) → ((cs : List Bound) → Chain old k cs → IsKnown cs name → ⊥) → ((cs : List Bound) → Chain old k cs → Chain new last (record { name = name; at = at } ∷ cs)) → Sees old k bs → Sees new last (bs ++ record { name = name; at = at } ∷ [])
 append_new old new k last name at bs f put s =
     sees_agree new last (record { name = name; at = at } ∷ bs) (bs ++ record { name = name; at = at } ∷ []) (sees_put old new k last bs name at s put)
-      (agree_unknown bs (record { name = name; at = at }) (λ h. f s.chain s.stands (same_known bs s.chain name (flip s.chain bs s.same) h)))
+    (agree_unknown bs (record { name = name; at = at }) (λ h. f s.chain s.stands (same_known bs s.chain name (flip s.chain bs s.same) h)))
 
 -- a variable more
 pub bounds_more : (ts : List Target) (i : ℕ) (t : Target) → i < length ts → t ≡ get_or ts i t → bounds_of (take (i + 1) ts) ≡ bounds_of (take i ts) ++ bound_of t ∷ []
@@ -327,9 +325,9 @@ is_unknown_by bs cs name a h k = h (same_known cs bs name (flip bs cs a) k)
 
 pub same_name : (a b : List ℕ) → (a ≡ b) ⊎ (a ≡ b → ⊥)
 same_name a b = elim (test (bytes_eq a b)) [
-    | inl t ↦ inl ((bytes_eq-Decides a b).0 t)
-    | inr t ↦ inr (λ e. let f : true ≡ false = sym ((bytes_eq-Decides a b).1 e) ∙ t in cc)
-  ]
+  | inl t ↦ inl ((bytes_eq-Decides a b).0 t)
+  | inr t ↦ inr (λ e. let f : true ≡ false = sym ((bytes_eq-Decides a b).1 e) ∙ t in cc)
+]
   where
     test : (r : Bool) → (r ≡ true) ⊎ (r ≡ false)
     test true = inl refl

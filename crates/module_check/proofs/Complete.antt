@@ -1,34 +1,27 @@
 -- What stands in a function stands inside one of its clauses.
-use Rattle.std.proofs.Common.{◌≡◌, ◌≢◌, ℕ, suc, zero, ◌+◌, ◌<◌, ◌≤◌, Bool, true, false, cond, List, [], ◌∷◌, ◌++◌, length, map, reverse, Option, Some, None, refl, sym, ◌∙◌, ap, subst, ◌⊎◌, inl, inr, arith}
-use Rattle.std.specs.List.{Contains, flat_map, All}
-use Rattle.std.specs.Str.{bytes_eq}
-use Rattle.std.proofs.lemmas.List.{append-nil, append_assoc, reverse-append, map-append}
-use Rattle.std.proofs.lemmas.List.Elements.{Contains-append_left, Contains-append_right, Contains-append_cases, Contains-push, All-head, All-tail, All-cons, All-nil, All-contains, recursion_from_All, All-from_recursion}
-use Rattle.std.proofs.lemmas.Slice.Eq.{bytes_eq-Decides}
-use Rattle.erl_syntax.specs.Bindings.{Bound, names, targets, targets_of, segment_targets}
-use Rattle.erl_syntax.specs.Scopes
-use Rattle.erl_syntax.specs.Scopes.{Scope, Part, AnExpr, APattern, ABody, ASegment, Stands, Found, IsKnown, nothing_known, with_known, behind, in_guard, to_match, to_generate, past_patterns, past_segments, past_items, generated, past_quals, past_row, is_empty, sizes_of, IsSizeScope, Parts, Chooses, IsAlt, IsBranch, Comprehends, PatternParts, HasSource, tuple, list, call, case, unary, binary, receive, same, bits, items, filter, head, head_guard, head_body, item_value, item_pattern, pattern_part, pattern_segment, pattern_size, part, segment, segment_value, segment_size, alt_pattern, alt_guard, alt_body, if_guard, if_body, row, source, generator, bit_generator}
+use Rattle.std.proofs.Common.{◌≡◌, ◌≢◌, List, [], ◌∷◌, ◌++◌, reverse, Option, Some, None, refl, sym, ◌∙◌, ap, subst}
+use Rattle.std.specs.List.{Contains, flat_map}
+use Rattle.std.proofs.lemmas.List.{append_assoc, reverse-append}
+use Rattle.std.proofs.lemmas.List.Elements.{Contains-append_left, Contains-append_right}
+use Rattle.erl_syntax.specs.Bindings.{targets, targets_of}
+use Rattle.erl_syntax.specs.Scopes.{Scope, Part, AnExpr, APattern, ABody, ASegment, Stands, nothing_known, with_known, behind, in_guard, to_match, to_generate, past_patterns, past_segments, past_items, generated, past_quals, past_row, is_empty, sizes_of, Parts, Chooses, Comprehends, PatternParts, HasSource, tuple, list, call, case, unary, binary, receive, same, bits, items, filter, head, head_guard, head_body, item_value, item_pattern, pattern_part, pattern_segment, pattern_size, part, segment, segment_value, segment_size, alt_pattern, alt_guard, alt_body, if_guard, if_body, row, source, generator, bit_generator}
 use Rattle.erl_syntax.specs.declared.span.Span.{Span}
-use Rattle.erl_syntax.specs.declared.expr.Expr.{Expr, out-Expr, roll-Expr, out-roll-Expr, roll-out-Expr}
+use Rattle.erl_syntax.specs.declared.expr.Expr.{Expr}
 use Rattle.erl_syntax.specs.declared.expr.Expr.TheVariants as x
 use Rattle.erl_syntax.specs.declared.expr.Expr.TheOpen as O
-use Rattle.erl_syntax.specs.declared.expr.Op.{Op}
-use Rattle.erl_syntax.specs.declared.expr.Prefix.{Prefix}
-use Rattle.erl_syntax.specs.declared.pattern.Pattern.{Pattern, out-Pattern, roll-Pattern, out-roll-Pattern, roll-out-Pattern}
-use Rattle.erl_syntax.specs.declared.pattern.Pattern.TheVariants as p
+use Rattle.erl_syntax.specs.declared.pattern.Pattern.{Pattern}
 use Rattle.erl_syntax.specs.declared.segment.Segment.{Segment}
-use Rattle.erl_syntax.specs.declared.qual.Qual.{Qual, out-Qual, roll-Qual, out-roll-Qual, roll-out-Qual}
-use Rattle.erl_syntax.specs.declared.qual.Qual.TheVariants as q
+use Rattle.erl_syntax.specs.declared.qual.Qual.{Qual}
 use Rattle.erl_syntax.specs.declared.clause.Item.{Item}
 use Rattle.erl_syntax.specs.declared.clause.Guard.{Guard}
-use Rattle.erl_syntax.specs.declared.clause.Alt.{Alt, out-Alt, roll-Alt, out-roll-Alt, roll-out-Alt}
-use Rattle.erl_syntax.specs.declared.clause.Branch.{Branch, out-Branch, roll-Branch, out-roll-Branch, roll-out-Branch}
+use Rattle.erl_syntax.specs.declared.clause.Alt.{Alt, roll-Alt, out-roll-Alt}
+use Rattle.erl_syntax.specs.declared.clause.Branch.{Branch, roll-Branch, out-roll-Branch}
 use Rattle.erl_syntax.specs.declared.module.Function.{Function}
 use Rattle.erl_syntax.specs.declared.module.Clause.{Clause}
 use Rattle.erl_syntax.specs.declared.typing.SideUse.{SideUse}
 use Rattle.erl_syntax.specs.declared.typing.SideUse.TheVariants as side
-use Rattle.module_check.specs.Spots.{Spot, spot, each, expr_in, exprs_in, same_in, tests_in, guard_in, pattern_in, patterns_in, matched_in, item_in, items_in, built_in_turn, segment_in, alt_layer_in, alt_in, branch_layer_in, branch_in, qual_layer_in, qual_in, quals_in, comprehension_in, expr_layer_in, inside_expr, pattern_layer_in, inside_pattern, place_of, shown, size_scope, inside_segment, inside, clause_in, clauses_in, Under, here, deeper, IsUnder}
-use Rattle.module_check.proofs.Spots.{Contains-head, Contains-tail, none_in, only_one, Cut, cut_at, cut_in, each_in, From, each_from, each_at, each_by}
+use Rattle.module_check.specs.Spots.{Spot, spot, each, expr_in, exprs_in, same_in, tests_in, guard_in, pattern_in, patterns_in, matched_in, items_in, built_in_turn, segment_in, alt_layer_in, alt_in, branch_layer_in, branch_in, qual_in, quals_in, comprehension_in, inside_expr, inside_pattern, size_scope, inside_segment, inside, clause_in, Under, here, deeper, IsUnder}
+use Rattle.module_check.proofs.Spots.{Contains-head, Contains-tail, each_at, each_by}
 use Rattle.module_check.proofs.Standing.{in_tuple, in_list, in_bits, in_list_for, in_bits_for, in_call, in_case, in_receive, in_if, in_unary, in_binary, in_pattern_tuple, in_pattern_list, in_pattern_bits, in_same, in_items, in_bit_items, in_filter, along, one_size_scope}
 
 under_more : (a b d : Spot) → Under a b → Contains (inside b.scope b.part) d → Under a d
@@ -116,8 +109,8 @@ complete f _ _ (item_value s is front i back st e) =
 complete f _ _ (item_pattern s is front i back left pt right st e ep) =
     let t : Scope = past_items front s in
     one_more f (spot s (ABody is)) _ (complete f s (ABody is) st) (each_at (items_in s) is front i back _ e
-      (Contains-tail (spot t (AnExpr i.value)) (each (matched_in t) [] (reverse i.patterns)) _
-        (each_at (matched_in t) (reverse i.patterns) (reverse right) pt (reverse left) _ (ap reverse ep ∙ reversed left pt right) (Contains-head (spot (to_match (with_known (targets_of (reverse right)) t)) (APattern pt)) []))))
+    (Contains-tail (spot t (AnExpr i.value)) (each (matched_in t) [] (reverse i.patterns)) _
+    (each_at (matched_in t) (reverse i.patterns) (reverse right) pt (reverse left) _ (ap reverse ep ∙ reversed left pt right) (Contains-head (spot (to_match (with_known (targets_of (reverse right)) t)) (APattern pt)) []))))
 complete f _ _ (pattern_part s pt ps front y back st h e) = one_more f (spot s (APattern pt)) _ (complete f s (APattern pt) st) (in_pattern_parts s pt ps front y back h e)
 complete f _ _ (pattern_segment s pt at sgs front sg back st h e) =
     one_more f (spot s (APattern pt)) _ (complete f s (APattern pt) st) (along _ _ _ (in_pattern_bits s pt at sgs h) (each_at (segment_in side.Match s) sgs front sg back _ e (Contains-head (spot (past_segments front s) (ASegment side.Match (is_empty back) sg)) [])))
@@ -134,11 +127,11 @@ complete f _ _ (alt_pattern s e ys alts at pt g is st h i) =
 complete f _ _ (alt_guard s e ys alts at pt g is tests y st h i ht hy) =
     let t : Scope = in_guard (with_known (targets pt) (behind ys s)) in
     one_more f (spot s (AnExpr e)) _ (complete f s (AnExpr e) st) (in_choice s e ys alts (record { at = at; pattern = pt; guard = g; body = is }) _ h i
-      (Contains-tail (spot (to_match (behind ys s)) (APattern pt)) (guard_in (in_guard (with_known (targets pt) (behind ys s))) g ++ spot (with_known (targets pt) (behind ys s)) (ABody is) ∷ []) _ (Contains-append_left (guard_in t g) (spot (with_known (targets pt) (behind ys s)) (ABody is) ∷ []) _ (in_guard_of t g tests y ht hy))))
+    (Contains-tail (spot (to_match (behind ys s)) (APattern pt)) (guard_in (in_guard (with_known (targets pt) (behind ys s))) g ++ spot (with_known (targets pt) (behind ys s)) (ABody is) ∷ []) _ (Contains-append_left (guard_in t g) (spot (with_known (targets pt) (behind ys s)) (ABody is) ∷ []) _ (in_guard_of t g tests y ht hy))))
 complete f _ _ (alt_body s e ys alts at pt g is st h i) =
     let t : Scope = with_known (targets pt) (behind ys s) in
     one_more f (spot s (AnExpr e)) _ (complete f s (AnExpr e) st) (in_choice s e ys alts (record { at = at; pattern = pt; guard = g; body = is }) _ h i
-      (Contains-tail (spot (to_match (behind ys s)) (APattern pt)) (guard_in (in_guard (with_known (targets pt) (behind ys s))) g ++ spot (with_known (targets pt) (behind ys s)) (ABody is) ∷ []) _ (Contains-append_right (guard_in (in_guard t) g) (spot t (ABody is) ∷ []) _ (Contains-head (spot t (ABody is)) []))))
+    (Contains-tail (spot (to_match (behind ys s)) (APattern pt)) (guard_in (in_guard (with_known (targets pt) (behind ys s))) g ++ spot (with_known (targets pt) (behind ys s)) (ABody is) ∷ []) _ (Contains-append_right (guard_in (in_guard t) g) (spot t (ABody is) ∷ []) _ (Contains-head (spot t (ABody is)) []))))
 complete f _ _ (if_guard s e at bs az g is tests y st h i ht hy) =
     one_more f (spot s (AnExpr e)) _ (complete f s (AnExpr e) st) (in_branch s e at bs (record { at = az; guard = g; body = is }) _ h i (Contains-append_left (guard_in (in_guard s) g) (spot s (ABody is) ∷ []) _ (in_guard_of (in_guard s) g tests y ht hy)))
 complete f _ _ (if_body s e at bs az g is st h i) =
@@ -152,4 +145,4 @@ complete f _ _ (generator s e ys quals front g back at pt y st c h hg) =
 complete f _ _ (bit_generator s e ys quals front g back at sgs left sg right y st c h hg i) =
     let t : Scope = past_quals front (past_row ys quals s) in
     one_more f (spot s (AnExpr e)) _ (complete f s (AnExpr e) st) (in_qual s e ys quals front g back _ c h (along _ _ _ (in_bit_items t g at sgs y hg) (Contains-tail (spot t (AnExpr y)) (each (segment_in side.Generator (to_generate t)) [] sgs) _
-      (each_at (segment_in side.Generator (to_generate t)) sgs left sg right _ i (Contains-head (spot (past_segments left (to_generate t)) (ASegment side.Generator (is_empty right) sg)) [])))))
+    (each_at (segment_in side.Generator (to_generate t)) sgs left sg right _ i (Contains-head (spot (past_segments left (to_generate t)) (ASegment side.Generator (is_empty right) sg)) [])))))

@@ -1,20 +1,15 @@
 -- The order in which faults are told, and the first of several.
-use Rattle.std.proofs.Common.{◌≡◌, ℕ, ◌+◌, ◌<◌, ◌≤◌, Bool, true, false, List, [], ◌∷◌, ◌++◌, length, get_or, take, drop, Option, Some, None, refl, sym, ◌∙◌, ap, subst, ◌⊎◌, inl, inr, arith, MatchBool, lit<}
-use Rattle.std.specs.List.{Contains}
+use Rattle.std.proofs.Common.{◌≡◌, ℕ, ◌+◌, ◌<◌, ◌≤◌, Bool, true, false, List, [], ◌∷◌, ◌++◌, length, get_or, take, Option, Some, None, refl, sym, ◌∙◌, ap, subst, inl, inr, arith, MatchBool}
 use Rattle.std.proofs.Math.Dec.{leb}
 use Rattle.std.proofs.lemmas.Bool.{cases_eq}
 use Rattle.std.proofs.lemmas.Bool.Decides.{leb_tells}
-use Rattle.std.proofs.lemmas.List.{take_all, take_more, get_or-drop, get_or_default, length-drop}
+use Rattle.std.proofs.lemmas.List.{take_all, take_more}
 use Rattle.std.proofs.lemmas.List.Elements.{Contains-append_left, Contains-push, Contains-push_cases}
-use Rattle.std.proofs.Math.Seq.{split_at}
-use Rattle.erl_syntax.specs.Checking.{IsBefore, StandsBefore, check_causes}
+use Rattle.erl_syntax.specs.Checking.{IsBefore}
 use Rattle.erl_syntax.specs.declared.span.Span.{Span}
-use Rattle.erl_syntax.specs.declared.typing.SegFault.{SegFault}
-use Rattle.erl_syntax.specs.declared.typing.SegFault.TheVariants as f
 use Rattle.erl_syntax.specs.declared.checking.CheckCause.{CheckCause}
-use Rattle.erl_syntax.specs.declared.checking.CheckCause.TheVariants as c
 use Rattle.erl_syntax.specs.declared.checking.CheckFault.{CheckFault}
-use Rattle.module_check.specs.Order.{rank, segment_rank, NotAfter, IsFirstOf, IsLeast, Some_of, Either, Below, At, fault_if}
+use Rattle.module_check.specs.Order.{rank, NotAfter, IsFirstOf, IsLeast, Some_of, Either, Below, At, fault_if}
 
 same_spot : (a b : Span) → a.line ≡ b.line → a.column ≡ b.column → a ≡ b
 same_spot a b e h =
@@ -75,15 +70,15 @@ module _ {X : Type 0} (Of : X → Span → CheckCause → Type 0) where
       let both = least_of_both (Some_of Of (take i xs)) (Of x) a b r p q f in
       let F : List X → Type 0 = λ ys. IsLeast (Some_of Of ys) r in
       subst F (sym cut) (same_least (Either (Some_of Of (take i xs)) (Of x)) (Some_of Of (take i xs ++ x ∷ [])) r
-        (λ at why h. elim h [
-          | inl k ↦ (k.0, (Contains-append_left (take i xs) (x ∷ []) k.0 k.1.0, k.1.1))
-          | inr k ↦ (x, (Contains-push (take i xs) x, k))
-        ])
-        (λ at why h. elim (Contains-push_cases (take i xs) x h.0 h.1.0) [
-          | inl k ↦ inl (h.0, (k, h.1.1))
-          | inr k ↦ inr (let G : X → Type 0 = λ y. Of y at why in subst G (sym k) h.1.1)
-        ])
-        both)
+      (λ at why h. elim h [
+        | inl k ↦ (k.0, (Contains-append_left (take i xs) (x ∷ []) k.0 k.1.0, k.1.1))
+        | inr k ↦ (x, (Contains-push (take i xs) x, k))
+      ])
+      (λ at why h. elim (Contains-push_cases (take i xs) x h.0 h.1.0) [
+        | inl k ↦ inl (h.0, (k, h.1.1))
+        | inr k ↦ inr (let G : X → Type 0 = λ y. Of y at why in subst G (sym k) h.1.1)
+      ])
+      both)
 
   pub least_all : (xs : List X) (i : ℕ) (r : Option CheckFault) → length xs ≤ i → IsLeast (Some_of Of (take i xs)) r → IsLeast (Some_of Of xs) r
   least_all xs i r l h = let F : List X → Type 0 = λ ys. IsLeast (Some_of Of ys) r in subst F (take_all i xs l) h
@@ -95,12 +90,12 @@ module _ (Of : ℕ → Span → CheckCause → Type 0) where
   pub least_below : (n : ℕ) (a b r : Option CheckFault) → IsLeast (Below Of n) a → IsLeast (Of n) b → IsFirstOf a b r → IsLeast (Below Of (n + 1)) r
   least_below n a b r p q f =
       same_least (Either (Below Of n) (Of n)) (Below Of (n + 1)) r
-        (λ at why h. elim h [
-          | inl k ↦ (k.0, (omega (arith, k.1.0), k.1.1))
-          | inr k ↦ (n, (omega arith, k))
-        ])
-        (λ at why h. split at why h.0 h.1.0 h.1.1)
-        (least_of_both (Below Of n) (Of n) a b r p q f)
+      (λ at why h. elim h [
+        | inl k ↦ (k.0, (omega (arith, k.1.0), k.1.1))
+        | inr k ↦ (n, (omega arith, k))
+      ])
+      (λ at why h. split at why h.0 h.1.0 h.1.1)
+      (least_of_both (Below Of n) (Of n) a b r p q f)
     where
       split : (at : Span) (why : CheckCause) (k : ℕ) → k < n + 1 → Of k at why → Either (Below Of n) (Of n) at why
       split at why k l h = elim (cases_eq k n) [

@@ -1,21 +1,17 @@
 -- The faults of a module's forms.
-use Rattle.std.proofs.Common.{◌≡◌, ◌≢◌, ℕ, ℤ, suc, ◌+◌, ◌<◌, ◌≤◌, pos, Bool, true, false, not, List, [], ◌∷◌, ◌++◌, length, get_or, take, drop, Option, Some, None, refl, sym, ◌∙◌, ap, subst, ◌⊎◌, inl, inr, arith, MatchBool}
+use Rattle.std.proofs.Common.{◌≡◌, ℕ, ◌≤◌, pos, Bool, true, false, not, List, [], ◌∷◌, length, get_or, drop, Option, refl, sym, ◌∙◌, ap, subst, arith, MatchBool}
 use Rattle.std.specs.List.{Contains}
 use Rattle.std.specs.Prelude.{codes}
-use Rattle.std.proofs.lemmas.List.{get_or_default}
-use Rattle.erl_syntax.specs.Checking.{Spelled, HasFunction, IsExported}
-use Rattle.erl_syntax.specs.declared.span.Span.{Span}
+use Rattle.erl_syntax.specs.Checking.{Spelled}
 use Rattle.erl_syntax.specs.declared.module.Module.{Module}
-use Rattle.erl_syntax.specs.declared.module.Head.{Head}
 use Rattle.erl_syntax.specs.declared.module.Name.{Name}
 use Rattle.erl_syntax.specs.declared.module.Function.{Function}
 use Rattle.erl_syntax.specs.declared.module.Clause.{Clause}
-use Rattle.erl_syntax.specs.declared.checking.CheckCause.{CheckCause}
 use Rattle.erl_syntax.specs.declared.checking.CheckCause.TheVariants as c
 use Rattle.erl_syntax.specs.declared.checking.CheckFault.{CheckFault}
-use Rattle.module_check.specs.Order.{IsLeast, IsFirstOf, Some_of, At, Either}
-use Rattle.module_check.specs.Faults.{rest, HeadFault, IsExportOf, IsMissing, HasNoMain, DiffersFault, IsAmong, ClausesFault}
-use Rattle.module_check.proofs.Firsts.{least_of_both, same_least}
+use Rattle.module_check.specs.Order.{IsLeast, IsFirstOf, Some_of, At}
+use Rattle.module_check.specs.Faults.{rest, IsExportOf, IsMissing, HasNoMain, DiffersFault, IsAmong, ClausesFault}
+use Rattle.module_check.proofs.Firsts.{least_of_both}
 
 pub rest_drop : {X : Type 0} (xs : List X) → rest xs ≡ drop 1 xs
 rest_drop [] = refl

@@ -1,14 +1,14 @@
 -- Which variables the forms of a pattern have, and what the forms of an expression leave unsafe.
-use Rattle.std.proofs.Common.{◌≡◌, ℕ, suc, ◌+◌, ◌<◌, ◌≤◌, List, [], ◌∷◌, ◌++◌, map, length, get_or, take, drop, Option, Some, None, refl, sym, ◌∙◌, ap, subst, arith}
+use Rattle.std.proofs.Common.{◌≡◌, ℕ, ◌+◌, ◌<◌, ◌≤◌, List, [], ◌∷◌, ◌++◌, map, length, get_or, take, Option, Some, None, refl, sym, ◌∙◌, ap}
 use Rattle.std.specs.List.{flat_map}
 use Rattle.std.proofs.lemmas.List.{append_assoc, append-nil, map-append, take_more, take_all}
 use Rattle.std.proofs.lemmas.Grind.{flat_map-append}
-use Rattle.erl_syntax.specs.Bindings.{Bound, Vars, Row, names, joined, unsafe_in, size_unsafe, expr_layer, pattern_layer, qual_layer, alt_layer, branch_layer, guard_layer, item_layer, segment_layer, vars_of, targets, row_of, vars_of_segment, targets_of, segment_targets, new_names, qual_unsafe}
+use Rattle.erl_syntax.specs.Bindings.{Bound, Vars, Row, names, joined, unsafe_in, expr_layer, pattern_layer, qual_layer, alt_layer, branch_layer, guard_layer, item_layer, segment_layer, vars_of, targets, vars_of_segment, targets_of, segment_targets, new_names, qual_unsafe}
 use Rattle.erl_syntax.specs.declared.span.Span.{Span}
 use Rattle.erl_syntax.specs.declared.expr.Expr.{Expr}
 use Rattle.erl_syntax.specs.declared.expr.Expr.TheVariants as x
 use Rattle.erl_syntax.specs.declared.expr.Expr.TheOpen as O
-use Rattle.erl_syntax.specs.declared.expr.Expr.TheFolds.{fold-Expr, fold-Pattern, fold-Qual, fold-Segment, fold-Alt, fold-Branch, fold-Item, fold-Guard, fold-roll-Expr, fold-roll-Pattern, fold-roll-Qual, fold_out-Alt, fold_out-Branch, fold_out-Segment, fold_out-Item}
+use Rattle.erl_syntax.specs.declared.expr.Expr.TheFolds.{fold-Alt, fold-Branch, fold-Item, fold-roll-Expr, fold-roll-Pattern, fold-roll-Qual, fold_out-Alt, fold_out-Branch, fold_out-Segment, fold_out-Item}
 use Rattle.erl_syntax.specs.declared.expr.Op.{Op}
 use Rattle.erl_syntax.specs.declared.expr.Prefix.{Prefix}
 use Rattle.erl_syntax.specs.declared.pattern.Pattern.{Pattern}

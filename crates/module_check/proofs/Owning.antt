@@ -1,6 +1,5 @@
 -- The faults of a part by itself.
-use Rattle.std.proofs.Common.{◌≡◌, ◌≢◌, ℕ, suc, ◌+◌, ◌<◌, ◌≤◌, Bool, true, false, List, [], ◌∷◌, ◌++◌, length, get_or, Option, Some, None, refl, sym, ◌∙◌, ap, subst, ◌⊎◌, inl, inr, arith, MatchBool, not, ◌&&◌, lit<}
-use Rattle.std.specs.List.{Contains}
+use Rattle.std.proofs.Common.{◌≡◌, ℕ, ◌+◌, ◌<◌, ◌≤◌, Bool, true, false, List, [], ◌∷◌, length, get_or, Option, Some, None, refl, sym, ◌∙◌, ap, subst, ◌⊎◌, inl, inr, arith, MatchBool, not, ◌&&◌, lit<}
 use Rattle.std.proofs.lemmas.Bool.{cases_eq}
 use Rattle.std.proofs.lemmas.List.{get_or_default}
 use Rattle.erl_syntax.specs.Bindings.{Bound}
@@ -28,14 +27,11 @@ use Rattle.erl_syntax.specs.declared.checking.CheckCause.{CheckCause}
 use Rattle.erl_syntax.specs.declared.checking.CheckCause.TheVariants as c
 use Rattle.erl_syntax.specs.declared.checking.CheckFault.{CheckFault}
 use Rattle.module_check.specs.declared.scopes.Node.{Node}
-use Rattle.module_check.specs.declared.tasks.Task.{Task}
-use Rattle.module_check.specs.Order.{segment_rank, rank, IsLeast, IsFirstOf, NotAfter, At, fault_if}
+use Rattle.module_check.specs.Order.{segment_rank, rank, IsLeast, IsFirstOf, fault_if}
 use Rattle.module_check.specs.Nodes.{Chain, Sees, SeesUnsafe}
-use Rattle.module_check.specs.Spots.{Spot}
-use Rattle.module_check.specs.Tasks.{Means, Fits, part_of}
 use Rattle.module_check.specs.Faults.{UnsafeFault, ReadFault, CallFault, ExprFault, PatternFault, TargetFault, TypeFault, SegmentFault, Own}
 use Rattle.module_check.proofs.Firsts.{least_if, least_of_both}
-use Rattle.module_check.proofs.Chained.{is_known_by, found_known, same_known, flip}
+use Rattle.module_check.proofs.Chained.{found_known, same_known, flip}
 use Rattle.std.specs.Option.{MatchOption, is_some}
 
 -- what a test of a node says of the scope
@@ -105,18 +101,21 @@ Ranked n (v ∷ vs) = (segment_rank v ≡ n) × Ranked (n + 1) vs
 first_rank : (H : SegFault → Type 0) (n : ℕ) (vs : List SegFault) (e : SegFault) → Ranked n vs → FirstOf H vs (Some e) → H e × ((v : SegFault) → H v → n ≤ segment_rank v → segment_rank e ≤ segment_rank v)
 first_rank H n [] e r h = cc
 first_rank H n (w ∷ vs) e r (inl h) = (let q : w ≡ e = cc in (subst H q h.0, λ v k l. (let s : segment_rank e ≡ n = ap segment_rank (sym q) ∙ r.0 in omega arith)))
-first_rank H n (w ∷ vs) e r (inr h) = (let ih = first_rank H (n + 1) vs e r.1 h.1 in (ih.0, λ v k l. elim (cases_eq (segment_rank v) n) [
+first_rank H n (w ∷ vs) e r (inr h) = (let ih = first_rank H (n + 1) vs e r.1 h.1 in (
+  ih.0,
+  λ v k l. elim (cases_eq (segment_rank v) n) [
     | inl s ↦ absurd (h.0 (subst H (same_rank v w (s ∙ sym r.0)) k))
     | inr s ↦ ih.1 v k (omega arith)
-  ]))
+  ],
+))
 
 first_none : (H : SegFault → Type 0) (n : ℕ) (vs : List SegFault) → Ranked n vs → FirstOf H vs None → (v : SegFault) → H v → n ≤ segment_rank v → ⊥
 first_none H n [] r h v k l = (let s = (seg_at v).0 in absurd (omega (arith, s, r)))
 first_none H n (w ∷ vs) r (inl h) v k l = cc
 first_none H n (w ∷ vs) r (inr h) v k l = elim (cases_eq (segment_rank v) n) [
-    | inl s ↦ h.0 (subst H (same_rank v w (s ∙ sym r.0)) k)
-    | inr s ↦ first_none H (n + 1) vs r.1 h.1 v k (omega arith)
-  ]
+  | inl s ↦ h.0 (subst H (same_rank v w (s ∙ sym r.0)) k)
+  | inr s ↦ first_none H (n + 1) vs r.1 h.1 v k (omega arith)
+]
 
 ranked : Ranked 0 seg_faults
 ranked = (refl, (refl, (refl, (refl, (refl, (refl, (refl, (refl, (refl, refl)))))))))
@@ -134,30 +133,30 @@ side_build s on last sg r e h =
     let P : SideUse → Type 0 = λ v. IsLeast (SegmentFault s v last sg) r in
     let Q : SideUse → Type 0 = λ v. IsLeast (TypeFault v last sg) r in
     subst P (sym e) (plain r (subst Q e h))
-    where
-      plain : (r : Option CheckFault) → IsLeast (TypeFault side.Build last sg) r → IsLeast (SegmentFault s side.Build last sg) r
-      plain None h = h
-      plain (Some a) h = h
+  where
+    plain : (r : Option CheckFault) → IsLeast (TypeFault side.Build last sg) r → IsLeast (SegmentFault s side.Build last sg) r
+    plain None h = h
+    plain (Some a) h = h
 
 pub side_match : (s : Scope) (on : SideUse) (last : Bool) (sg : Segment) (a b r : Option CheckFault) → on ≡ side.Match → IsLeast (TypeFault on last sg) a → IsLeast (TargetFault s (out-Expr sg.value)) b → IsFirstOf a b r → IsLeast (SegmentFault s on last sg) r
 side_match s on last sg a b r e h k g =
     let P : SideUse → Type 0 = λ v. IsLeast (SegmentFault s v last sg) r in
     let Q : SideUse → Type 0 = λ v. IsLeast (TypeFault v last sg) a in
     subst P (sym e) (plain r (least_of_both (TypeFault side.Match last sg) (TargetFault s (out-Expr sg.value)) a b r (subst Q e h) k g))
-    where
-      plain : (r : Option CheckFault) → IsLeast (λ at why. TypeFault side.Match last sg at why ⊎ TargetFault s (out-Expr sg.value) at why) r → IsLeast (SegmentFault s side.Match last sg) r
-      plain None h = h
-      plain (Some a) h = h
+  where
+    plain : (r : Option CheckFault) → IsLeast (λ at why. TypeFault side.Match last sg at why ⊎ TargetFault s (out-Expr sg.value) at why) r → IsLeast (SegmentFault s side.Match last sg) r
+    plain None h = h
+    plain (Some a) h = h
 
 pub side_generator : (s : Scope) (on : SideUse) (last : Bool) (sg : Segment) (a b r : Option CheckFault) → on ≡ side.Generator → IsLeast (TypeFault on last sg) a → IsLeast (TargetFault s (out-Expr sg.value)) b → IsFirstOf a b r → IsLeast (SegmentFault s on last sg) r
 side_generator s on last sg a b r e h k g =
     let P : SideUse → Type 0 = λ v. IsLeast (SegmentFault s v last sg) r in
     let Q : SideUse → Type 0 = λ v. IsLeast (TypeFault v last sg) a in
     subst P (sym e) (plain r (least_of_both (TypeFault side.Generator last sg) (TargetFault s (out-Expr sg.value)) a b r (subst Q e h) k g))
-    where
-      plain : (r : Option CheckFault) → IsLeast (λ at why. TypeFault side.Generator last sg at why ⊎ TargetFault s (out-Expr sg.value) at why) r → IsLeast (SegmentFault s side.Generator last sg) r
-      plain None h = h
-      plain (Some a) h = h
+  where
+    plain : (r : Option CheckFault) → IsLeast (λ at why. TypeFault side.Generator last sg at why ⊎ TargetFault s (out-Expr sg.value) at why) r → IsLeast (SegmentFault s side.Generator last sg) r
+    plain None h = h
+    plain (Some a) h = h
 
 -- the part of a task
 pub own_part : (m : Module) (s : Scope) (y z : Scopes.Part) (r : Option CheckFault) → z ≡ y → IsLeast (Own m s z) r → IsLeast (Own m s y) r

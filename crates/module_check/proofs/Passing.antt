@@ -1,55 +1,35 @@
 -- Scopes and tasks of segments, qualifiers and clauses.
-use Rattle.std.proofs.Common.{◌≡◌, ◌≢◌, ℕ, suc, zero, ◌+◌, ◌<◌, ◌≤◌, Bool, true, false, cond, List, [], ◌∷◌, ◌++◌, length, map, reverse, Option, Some, None, refl, sym, ◌∙◌, ap, subst, ◌⊎◌, inl, inr, arith}
-use Rattle.std.specs.List.{Contains, flat_map, All}
-use Rattle.std.specs.Str.{bytes_eq}
-use Rattle.std.proofs.lemmas.List.{append-nil, append_assoc, reverse-append, map-append}
-use Rattle.std.proofs.lemmas.List.Elements.{Contains-append_left, Contains-append_right, Contains-append_cases, Contains-push, All-head, All-tail, All-cons, All-nil, All-contains, recursion_from_All, All-from_recursion}
-use Rattle.std.proofs.lemmas.Slice.Eq.{bytes_eq-Decides}
-use Rattle.erl_syntax.specs.Bindings.{Bound, names, targets, targets_of, segment_targets}
-use Rattle.erl_syntax.specs.Scopes
-use Rattle.erl_syntax.specs.Scopes.{Scope, Part, AnExpr, APattern, ABody, ASegment, Found, IsKnown, nothing_known, with_known, behind, in_guard, to_match, to_generate, past_patterns, past_segments, past_items, generated, past_quals, past_row, is_empty, sizes_of}
+use Rattle.std.proofs.Common.{◌≡◌, ℕ, ◌+◌, ◌<◌, Bool, true, false, List, [], ◌∷◌, ◌++◌, length, map, Option, Some, None, refl, sym, ◌∙◌, ap, subst, ◌⊎◌, inl, inr, arith}
+use Rattle.std.specs.List.{Contains, flat_map}
+use Rattle.std.proofs.lemmas.List.{append-nil, append_assoc, map-append}
+use Rattle.std.proofs.lemmas.List.Elements.{Contains-append_left, Contains-append_cases, Contains-push}
+use Rattle.erl_syntax.specs.Bindings.{Bound, names, segment_targets}
+use Rattle.erl_syntax.specs.Scopes.{Scope, ASegment, Found, IsKnown, nothing_known, behind, to_generate, past_segments, generated, past_quals, is_empty, sizes_of}
 use Rattle.erl_syntax.specs.declared.span.Span.{Span}
-use Rattle.erl_syntax.specs.declared.expr.Expr.{Expr, out-Expr, roll-Expr, out-roll-Expr, roll-out-Expr}
-use Rattle.erl_syntax.specs.declared.expr.Expr.TheVariants as x
-use Rattle.erl_syntax.specs.declared.expr.Expr.TheOpen as O
-use Rattle.erl_syntax.specs.declared.expr.Op.{Op}
-use Rattle.erl_syntax.specs.declared.expr.Prefix.{Prefix}
-use Rattle.erl_syntax.specs.declared.pattern.Pattern.{Pattern, out-Pattern, roll-Pattern, out-roll-Pattern, roll-out-Pattern}
-use Rattle.erl_syntax.specs.declared.pattern.Pattern.TheVariants as p
+use Rattle.erl_syntax.specs.declared.expr.Expr.{Expr}
 use Rattle.erl_syntax.specs.declared.segment.Segment.{Segment}
-use Rattle.erl_syntax.specs.declared.qual.Qual.{Qual, out-Qual, roll-Qual, out-roll-Qual, roll-out-Qual}
-use Rattle.erl_syntax.specs.declared.qual.Qual.TheVariants as q
-use Rattle.erl_syntax.specs.declared.clause.Item.{Item}
-use Rattle.erl_syntax.specs.declared.clause.Guard.{Guard}
-use Rattle.erl_syntax.specs.declared.clause.Alt.{Alt, out-Alt, roll-Alt, out-roll-Alt, roll-out-Alt}
-use Rattle.erl_syntax.specs.declared.clause.Branch.{Branch, out-Branch, roll-Branch, out-roll-Branch, roll-out-Branch}
-use Rattle.erl_syntax.specs.declared.module.Function.{Function}
-use Rattle.erl_syntax.specs.declared.module.Clause.{Clause}
+use Rattle.erl_syntax.specs.declared.qual.Qual.{Qual}
 use Rattle.erl_syntax.specs.declared.typing.SideUse.{SideUse}
 use Rattle.erl_syntax.specs.declared.typing.SideUse.TheVariants as side
-use Rattle.module_check.specs.Spots.{Spot, spot, each, expr_in, exprs_in, same_in, tests_in, guard_in, pattern_in, patterns_in, matched_in, item_in, items_in, built_in_turn, segment_in, alt_layer_in, alt_in, branch_layer_in, branch_in, qual_layer_in, qual_in, quals_in, comprehension_in, expr_layer_in, inside_expr, pattern_layer_in, inside_pattern, place_of, shown, size_scope, inside_segment, inside, clause_in, clauses_in, Under, here, deeper, IsUnder}
-use Rattle.module_check.proofs.Spots.{Contains-head, Contains-tail, none_in, only_one, Cut, cut_at, cut_in, each_in, From, each_from, each_at, each_by}
-use Rattle.std.proofs.Common.{get_or, take, drop, ◌-◌}
-use Rattle.std.proofs.lemmas.List.{take_more, take_all, drop_more}
+use Rattle.module_check.specs.Spots.{Spot, each, same_in, place_of, size_scope}
+use Rattle.module_check.proofs.Spots.{Contains-head, Contains-tail, none_in, only_one}
+use Rattle.std.proofs.Common.{drop, ◌-◌}
 use Rattle.std.proofs.lemmas.Grind.{flat_map-append}
-use Rattle.erl_syntax.specs.Scopes.{Danger, IsUnsafe}
+use Rattle.erl_syntax.specs.Scopes.{Danger}
 use Rattle.erl_syntax.specs.Bindings.{vars_of, new_names, qual_unsafe}
 use Rattle.module_check.specs.declared.scopes.Node.{Node}
 use Rattle.module_check.specs.declared.tasks.Setting.{Setting}
-use Rattle.module_check.specs.declared.tasks.Task.{Task}
-use Rattle.module_check.specs.declared.tasks.Walk.{Walk}
 use Rattle.module_check.specs.Nodes.{Agree, Sees, SeesUnsafe, Grown, Chain, none}
-use Rattle.module_check.specs.Tasks.{part_of, Means, SeesSizes, Fits, AllFit, Adds}
-use Rattle.module_check.proofs.Chained.{grown_same, grown_twice, sees_grown, unsafe_grown, itself}
-
+use Rattle.module_check.specs.Tasks.{Means, SeesSizes}
+use Rattle.module_check.proofs.Chained.{sees_grown, unsafe_grown, itself}
 use Rattle.std.proofs.lemmas.List.{length-drop}
 use Rattle.std.proofs.lemmas.Bool.Decides.{Decides-eqb}
 use Rattle.std.proofs.Common.{nat_eq, ◌<◌}
 use Rattle.erl_syntax.specs.Bindings.{vars_of_segment}
 use Rattle.module_check.specs.Tasks.{Passes, passed, with_new, size_in}
-use Rattle.module_check.proofs.Chained.{Leads, found_left, found_right, found_joined, found_known, same_known, flip, chained, sees_put, sees_agree, agree_joined, one_place_of, known_cases, same_name}
-use Rattle.module_check.proofs.Standing.{found_place, known_found, left_known, in_tuple, in_list, in_bits, in_list_for, in_bits_for, in_call, in_case, in_receive, in_if, in_unary, in_binary, in_pattern_tuple, in_pattern_list, in_pattern_bits, in_same, in_items, in_bit_items, in_filter}
-use Rattle.module_check.proofs.Tasked.{means_grown, adds_same, adds_twice, means_same, with_none}
+use Rattle.module_check.proofs.Chained.{found_left, found_right, found_joined, same_known, flip, sees_put, sees_agree, one_place_of, known_cases, same_name}
+use Rattle.module_check.proofs.Standing.{found_place, known_found, left_known}
+use Rattle.module_check.proofs.Tasked.{means_grown}
 
 by_emptiness : {X : Type 0} (zs : List X) (r : Bool) → (r ≡ true → length zs ≡ 0) → (length zs ≡ 0 → r ≡ true) → r ≡ is_empty zs
 by_emptiness [] r h k = k refl
@@ -60,8 +40,8 @@ pub last_is : {X : Type 0} (xs : List X) (i : ℕ) → i < length xs → nat_eq 
 last_is xs i l =
     let size : length (drop (i + 1) xs) ≡ length xs - (i + 1) = length-drop (i + 1) xs in
     by_emptiness (drop (i + 1) xs) (nat_eq (i + 1) (length xs))
-      (λ t. let e : i + 1 ≡ length xs = (Decides-eqb (i + 1) (length xs)).0 t in omega arith)
-      (λ t. (Decides-eqb (i + 1) (length xs)).1 (omega arith))
+    (λ t. let e : i + 1 ≡ length xs = (Decides-eqb (i + 1) (length xs)).0 t in omega arith)
+    (λ t. (Decides-eqb (i + 1) (length xs)).1 (omega arith))
 
 pub behind_joined : (s : Scope) (xs ys : List Expr) → behind ys (behind xs s) ≡ behind (xs ++ ys) s
 behind_joined s xs ys =
@@ -133,26 +113,30 @@ agree_moved p xs ys h = record {
   where
     last_known : IsKnown (xs ++ p ∷ []) p.name
     last_known = let Q : List (List ℕ) → Type 0 = λ v. Contains v p.name in subst Q (sym (map-append (λ b. b.name) xs (p ∷ []))) (Contains-push (names xs) p.name)
+
     known_or : (n : List ℕ) → IsKnown xs n ⊎ (IsKnown xs n → ⊥)
     known_or n = known_cases xs n
+
     to_front : (n : List ℕ) (z : Span) → (p.name ≡ n) × (p.at ≡ z) → Found ((xs ++ p ∷ []) ++ ys) n z
     to_front n z i = found_left (xs ++ p ∷ []) ys n z (elim (known_or p.name) [
-        | inl k ↦ (let d : Span = p.at in
-            let f = known_found xs p.name d k in
-            let P : Span → Type 0 = λ v. Found xs p.name v in
-            let Q : List ℕ → Type 0 = λ v. Found (xs ++ p ∷ []) v z in
-            subst Q i.0 (found_left xs (p ∷ []) p.name z (subst P (h (place_of xs p.name d) f ∙ i.1) f)))
-        | inr k ↦ (let Q : List ℕ → Type 0 = λ v. Found (xs ++ p ∷ []) v z in subst Q i.0 (found_right xs (p ∷ []) p.name z k (inl (refl, i.1))))
-      ])
+      | inl k ↦ (let d : Span = p.at in
+          let f = known_found xs p.name d k in
+          let P : Span → Type 0 = λ v. Found xs p.name v in
+          let Q : List ℕ → Type 0 = λ v. Found (xs ++ p ∷ []) v z in
+          subst Q i.0 (found_left xs (p ∷ []) p.name z (subst P (h (place_of xs p.name d) f ∙ i.1) f)))
+      | inr k ↦ (let Q : List ℕ → Type 0 = λ v. Found (xs ++ p ∷ []) v z in subst Q i.0 (found_right xs (p ∷ []) p.name z k (inl (refl, i.1))))
+    ])
+
     not_either : (n : List ℕ) → (p.name ≡ n → ⊥) → (IsKnown xs n → ⊥) → IsKnown (xs ++ p ∷ []) n → ⊥
     not_either n a b k =
         let Q : List (List ℕ) → Type 0 = λ v. Contains v n in
         elim (Contains-append_cases (names xs) (p.name ∷ []) n (subst Q (map-append (λ b. b.name) xs (p ∷ [])) k)) [ inl m ↦ b m | inr m ↦ a (only_one p.name n m) ]
+
     from_front : (n : List ℕ) (z : Span) → Found xs n z → Found (p ∷ (xs ++ ys)) n z
     from_front n z f = elim (same_name p.name n) [
-        | inl e ↦ (let P : List ℕ → Type 0 = λ v. Found xs v z in inl (e, sym (h z (subst P (sym e) f))))
-        | inr e ↦ inr (e, found_left xs ys n z f)
-      ]
+      | inl e ↦ (let P : List ℕ → Type 0 = λ v. Found xs v z in inl (e, sym (h z (subst P (sym e) f))))
+      | inr e ↦ inr (e, found_left xs ys n z f)
+    ]
 
 pub pass_on : (n0 n1 n2 : List Node) (t : Setting) (known sizes : ℕ) (b : Bound) (place : Span) (s : Scope) (bs : List Bound) → Grown n0 n1 → Grown n1 n2
     → ((ks : List Bound) → Sees n0 t.known ks → Sees n1 known (ks ++ b ∷ [])) → ((cs : List Bound) → Chain n1 known cs → Found cs b.name place)
@@ -172,9 +156,9 @@ pass_on n0 n1 n2 t known sizes b place s bs g h add found put m =
     let new = sees_agree n2 sizes (p ∷ (shown_by ks bs ++ s.outer)) ((shown_by ks bs ++ p ∷ []) ++ s.outer) old (agree_moved p (shown_by ks bs) s.outer apart) in
     let F : Span → Bound = λ z. record { name = b.name; at = z } in
     let same : shown_by ks bs ++ p ∷ [] ≡ shown_by ks2 (bs ++ b ∷ []) =
-        ap (λ z. shown_by ks bs ++ F z ∷ []) (sym (found_place ks2 b.name place b.at here))
-        ∙ ap (λ zs. zs ++ F (place_of ks2 b.name b.at) ∷ []) (sym (let Q : List Bound → Type 0 = λ zs. shown_by zs bs ≡ shown_by ks bs in subst Q joined (shown_same ks (b ∷ []) bs left)))
-        ∙ sym (map-append (λ c. record { name = c.name; at = place_of ks2 c.name c.at }) bs (b ∷ [])) in
+    ap (λ z. shown_by ks bs ++ F z ∷ []) (sym (found_place ks2 b.name place b.at here))
+    ∙ ap (λ zs. zs ++ F (place_of ks2 b.name b.at) ∷ []) (sym (let Q : List Bound → Type 0 = λ zs. shown_by zs bs ≡ shown_by ks bs in subst Q joined (shown_same ks (b ∷ []) bs left)))
+    ∙ sym (map-append (λ c. record { name = c.name; at = place_of ks2 c.name c.at }) bs (b ∷ [])) in
     let R : List Bound → Type 0 = λ zs. Sees n2 sizes (zs ++ s.outer) in
     record {
       means = record {

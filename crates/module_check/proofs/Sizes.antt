@@ -1,43 +1,29 @@
 -- How much is left to look at: how many parts there are.
-use Rattle.std.proofs.Common.{◌≡◌, ◌-◌, ◌≢◌, ℕ, suc, zero, ◌+◌, ◌<◌, ◌≤◌, Bool, true, false, cond, List, [], ◌∷◌, ◌++◌, length, map, reverse, Option, Some, None, refl, sym, ◌∙◌, ap, subst, ◌⊎◌, inl, inr, arith}
-use Rattle.std.specs.List.{Contains, flat_map, All}
-use Rattle.std.specs.Str.{bytes_eq}
-use Rattle.std.proofs.lemmas.List.{append-nil, append_assoc, reverse-append, map-append}
-use Rattle.std.proofs.lemmas.List.Elements.{Contains-append_left, Contains-append_right, Contains-append_cases, Contains-push, All-head, All-tail, All-cons, All-nil, All-contains, recursion_from_All, All-from_recursion}
-use Rattle.std.proofs.lemmas.Slice.Eq.{bytes_eq-Decides}
-use Rattle.erl_syntax.specs.Bindings.{Bound, names, targets, targets_of, segment_targets}
-use Rattle.erl_syntax.specs.Scopes
-use Rattle.erl_syntax.specs.Scopes.{Scope, Part, AnExpr, APattern, ABody, ASegment, Stands, Found, IsKnown, nothing_known, with_known, behind, in_guard, to_match, to_generate, past_patterns, past_segments, past_items, generated, past_quals, past_row, is_empty, sizes_of, IsSizeScope, Parts, Chooses, IsAlt, IsBranch, Comprehends, PatternParts, HasSource}
+use Rattle.std.proofs.Common.{◌≡◌, ℕ, ◌+◌, ◌<◌, ◌≤◌, List, [], ◌∷◌, ◌++◌, map, reverse, Option, Some, None, refl, ◌∙◌, ap, subst, arith}
+use Rattle.std.proofs.lemmas.List.{reverse-append, map-append}
+use Rattle.erl_syntax.specs.Bindings.{targets}
+use Rattle.erl_syntax.specs.Scopes.{Scope, Part, AnExpr, APattern, ABody, ASegment, with_known, behind, in_guard, to_generate, past_items, generated, past_quals, past_row}
 use Rattle.erl_syntax.specs.declared.span.Span.{Span}
-use Rattle.erl_syntax.specs.declared.expr.Expr.{Expr, out-Expr, roll-Expr, out-roll-Expr, roll-out-Expr}
-use Rattle.erl_syntax.specs.declared.expr.Expr.TheVariants as x
+use Rattle.erl_syntax.specs.declared.expr.Expr.{Expr, out-Expr, roll-Expr, roll-out-Expr}
 use Rattle.erl_syntax.specs.declared.expr.Expr.TheOpen as O
-use Rattle.erl_syntax.specs.declared.expr.Op.{Op}
-use Rattle.erl_syntax.specs.declared.expr.Prefix.{Prefix}
-use Rattle.erl_syntax.specs.declared.pattern.Pattern.{Pattern, out-Pattern, roll-Pattern, out-roll-Pattern, roll-out-Pattern}
-use Rattle.erl_syntax.specs.declared.pattern.Pattern.TheVariants as p
+use Rattle.erl_syntax.specs.declared.pattern.Pattern.{Pattern, out-Pattern, roll-Pattern, roll-out-Pattern}
 use Rattle.erl_syntax.specs.declared.segment.Segment.{Segment}
-use Rattle.erl_syntax.specs.declared.qual.Qual.{Qual, out-Qual, roll-Qual, out-roll-Qual, roll-out-Qual}
-use Rattle.erl_syntax.specs.declared.qual.Qual.TheVariants as q
+use Rattle.erl_syntax.specs.declared.qual.Qual.{Qual, out-Qual, roll-Qual, roll-out-Qual}
 use Rattle.erl_syntax.specs.declared.clause.Item.{Item}
 use Rattle.erl_syntax.specs.declared.clause.Guard.{Guard}
-use Rattle.erl_syntax.specs.declared.clause.Alt.{Alt, out-Alt, roll-Alt, out-roll-Alt, roll-out-Alt}
-use Rattle.erl_syntax.specs.declared.clause.Branch.{Branch, out-Branch, roll-Branch, out-roll-Branch, roll-out-Branch}
+use Rattle.erl_syntax.specs.declared.clause.Alt.{Alt, out-Alt}
+use Rattle.erl_syntax.specs.declared.clause.Branch.{Branch, out-Branch}
 use Rattle.erl_syntax.specs.declared.module.Function.{Function}
-use Rattle.erl_syntax.specs.declared.module.Clause.{Clause}
 use Rattle.erl_syntax.specs.declared.typing.SideUse.{SideUse}
 use Rattle.erl_syntax.specs.declared.typing.SideUse.TheVariants as side
-use Rattle.module_check.specs.Spots.{Spot, spot, each, expr_in, exprs_in, same_in, tests_in, guard_in, pattern_in, patterns_in, matched_in, item_in, items_in, built_in_turn, segment_in, alt_layer_in, alt_in, branch_layer_in, branch_in, qual_layer_in, qual_in, quals_in, comprehension_in, expr_layer_in, inside_expr, pattern_layer_in, inside_pattern, place_of, shown, size_scope, inside_segment, inside, clause_in, clauses_in, Under, here, deeper, IsUnder}
-use Rattle.module_check.proofs.Spots.{Contains-head, Contains-tail, none_in, only_one, Cut, cut_at, cut_in, each_in, From, each_from, each_at, each_by}
-
+use Rattle.module_check.specs.Spots.{Spot, spot, each, expr_in, exprs_in, same_in, tests_in, guard_in, pattern_in, patterns_in, matched_in, item_in, items_in, built_in_turn, segment_in, alt_layer_in, alt_in, branch_layer_in, branch_in, qual_layer_in, qual_in, quals_in, comprehension_in, expr_layer_in, inside_expr, pattern_layer_in, inside_pattern, size_scope, inside_segment, inside}
 use Rattle.erl_syntax.specs.declared.expr.Expr.TheFolds.{fold-Expr, fold-Pattern, fold-Qual, fold-Alt, fold-Branch, fold-Guard, fold-Item, fold-Segment, fold-roll-Expr, fold-roll-Pattern, fold-roll-Qual, fold_out-Alt, fold_out-Branch, fold_out-Guard, fold_out-Item, fold_out-Segment}
 use Rattle.erl_syntax.specs.declared.segment.Spec.{Spec}
 use Rattle.module_check.specs.declared.scopes.Node.{Node}
 use Rattle.module_check.specs.declared.tasks.Task.{Task}
 use Rattle.module_check.specs.declared.tasks.Walk.{Walk}
 use Rattle.module_check.specs.Tasks.{part_of, Fits, AllFit, Adds}
-use Rattle.module_check.specs.Faults.{InnerFault}
-use Rattle.module_check.proofs.Walking.{Looked, Last, last_of}
+use Rattle.module_check.proofs.Walking.{Looked, last_of}
 use Rattle.erl_syntax.specs.declared.checking.CheckFault.{CheckFault}
 use Rattle.erl_syntax.specs.declared.module.Module.{Module}
 
@@ -175,7 +161,7 @@ tot_reverse : (ps : List Pattern) → tot (map size_of_pattern (reverse ps)) ≡
 tot_reverse [] = refl
 tot_reverse (p ∷ ps) =
     let a : tot (map size_of_pattern (reverse (p ∷ ps))) ≡ tot (map size_of_pattern (reverse ps)) + (size_of_pattern p + 0) =
-      ap (λ zs. tot (map size_of_pattern zs)) (reverse-append (p ∷ []) ps) ∙ ap tot (map-append size_of_pattern (reverse ps) (p ∷ [])) ∙ tot_joined (map size_of_pattern (reverse ps)) (size_of_pattern p ∷ []) in
+    ap (λ zs. tot (map size_of_pattern zs)) (reverse-append (p ∷ []) ps) ∙ ap tot (map-append size_of_pattern (reverse ps) (p ∷ [])) ∙ tot_joined (map size_of_pattern (reverse ps)) (size_of_pattern p ∷ []) in
     let h = tot_reverse ps in
     omega (arith, a, h)
 

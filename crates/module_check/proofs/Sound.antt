@@ -1,35 +1,29 @@
 -- What stands inside a clause of a function stands in the function.
-use Rattle.std.proofs.Common.{◌≡◌, ◌≢◌, ℕ, suc, zero, ◌+◌, ◌<◌, ◌≤◌, Bool, true, false, cond, List, [], ◌∷◌, ◌++◌, length, map, reverse, Option, Some, None, refl, sym, ◌∙◌, ap, subst, ◌⊎◌, inl, inr, arith}
-use Rattle.std.specs.List.{Contains, flat_map, All}
-use Rattle.std.specs.Str.{bytes_eq}
-use Rattle.std.proofs.lemmas.List.{append-nil, append_assoc, reverse-append, reverse-reverse, map-append}
-use Rattle.std.proofs.lemmas.List.Elements.{Contains-append_left, Contains-append_right, Contains-append_cases, Contains-push, All-head, All-tail, All-cons, All-nil, All-contains, recursion_from_All, All-from_recursion}
-use Rattle.std.proofs.lemmas.Slice.Eq.{bytes_eq-Decides}
-use Rattle.erl_syntax.specs.Bindings.{Bound, names, targets, targets_of, segment_targets}
-use Rattle.erl_syntax.specs.Scopes
-use Rattle.erl_syntax.specs.Scopes.{Scope, Part, AnExpr, APattern, ABody, ASegment, Stands, Found, IsKnown, nothing_known, with_known, behind, in_guard, to_match, to_generate, past_patterns, past_segments, past_items, generated, past_quals, past_row, is_empty, sizes_of, IsSizeScope, Parts, Chooses, IsAlt, IsBranch, Comprehends, PatternParts, HasSource, tuple, list, call, case, unary, binary, receive, same, bits, items, filter, head, head_guard, head_body, item_value, item_pattern, pattern_part, pattern_segment, pattern_size, part, segment, segment_value, segment_size, alt_pattern, alt_guard, alt_body, if_guard, if_body, row, source, generator, bit_generator}
+use Rattle.std.proofs.Common.{◌≡◌, ◌≢◌, Bool, List, [], ◌∷◌, ◌++◌, reverse, Option, Some, None, refl, sym, ◌∙◌, ap, subst, ◌⊎◌, inl, inr}
+use Rattle.std.specs.List.{Contains, flat_map}
+use Rattle.std.proofs.lemmas.List.{reverse-reverse}
+use Rattle.std.proofs.lemmas.List.Elements.{Contains-append_cases}
+use Rattle.erl_syntax.specs.Bindings.{Bound, targets, targets_of, segment_targets}
+use Rattle.erl_syntax.specs.Scopes.{Scope, Part, AnExpr, APattern, ABody, ASegment, Stands, IsKnown, nothing_known, with_known, behind, in_guard, to_match, to_generate, past_patterns, past_segments, past_items, generated, past_quals, past_row, is_empty, sizes_of, Parts, Chooses, Comprehends, PatternParts, tuple, list, call, case, unary, binary, receive, same, bits, items, filter, head, head_guard, head_body, item_value, item_pattern, pattern_part, pattern_segment, pattern_size, part, segment, segment_value, segment_size, alt_pattern, alt_guard, alt_body, if_guard, if_body, row, source, generator, bit_generator}
 use Rattle.erl_syntax.specs.declared.span.Span.{Span}
-use Rattle.erl_syntax.specs.declared.expr.Expr.{Expr, out-Expr, roll-Expr, out-roll-Expr, roll-out-Expr}
+use Rattle.erl_syntax.specs.declared.expr.Expr.{Expr, out-Expr, roll-Expr, roll-out-Expr}
 use Rattle.erl_syntax.specs.declared.expr.Expr.TheVariants as x
 use Rattle.erl_syntax.specs.declared.expr.Expr.TheOpen as O
-use Rattle.erl_syntax.specs.declared.expr.Op.{Op}
-use Rattle.erl_syntax.specs.declared.expr.Prefix.{Prefix}
-use Rattle.erl_syntax.specs.declared.pattern.Pattern.{Pattern, out-Pattern, roll-Pattern, out-roll-Pattern, roll-out-Pattern}
+use Rattle.erl_syntax.specs.declared.pattern.Pattern.{Pattern, out-Pattern, roll-Pattern, roll-out-Pattern}
 use Rattle.erl_syntax.specs.declared.pattern.Pattern.TheVariants as p
 use Rattle.erl_syntax.specs.declared.segment.Segment.{Segment}
-use Rattle.erl_syntax.specs.declared.qual.Qual.{Qual, out-Qual, roll-Qual, out-roll-Qual, roll-out-Qual}
+use Rattle.erl_syntax.specs.declared.qual.Qual.{Qual, out-Qual, roll-Qual, roll-out-Qual}
 use Rattle.erl_syntax.specs.declared.qual.Qual.TheVariants as q
 use Rattle.erl_syntax.specs.declared.clause.Item.{Item}
 use Rattle.erl_syntax.specs.declared.clause.Guard.{Guard}
-use Rattle.erl_syntax.specs.declared.clause.Alt.{Alt, out-Alt, roll-Alt, out-roll-Alt, roll-out-Alt}
-use Rattle.erl_syntax.specs.declared.clause.Branch.{Branch, out-Branch, roll-Branch, out-roll-Branch, roll-out-Branch}
+use Rattle.erl_syntax.specs.declared.clause.Alt.{Alt, out-Alt, roll-Alt, roll-out-Alt}
+use Rattle.erl_syntax.specs.declared.clause.Branch.{Branch, out-Branch, roll-Branch, roll-out-Branch}
 use Rattle.erl_syntax.specs.declared.module.Function.{Function}
-use Rattle.erl_syntax.specs.declared.module.Clause.{Clause}
 use Rattle.erl_syntax.specs.declared.typing.SideUse.{SideUse}
 use Rattle.erl_syntax.specs.declared.typing.SideUse.TheVariants as side
-use Rattle.module_check.specs.Spots.{Spot, spot, each, expr_in, exprs_in, same_in, tests_in, guard_in, pattern_in, patterns_in, matched_in, item_in, items_in, built_in_turn, segment_in, alt_layer_in, alt_in, branch_layer_in, branch_in, qual_layer_in, qual_in, quals_in, comprehension_in, expr_layer_in, inside_expr, pattern_layer_in, inside_pattern, place_of, shown, size_scope, inside_segment, inside, clause_in, clauses_in, Under, here, deeper, IsUnder}
-use Rattle.module_check.proofs.Spots.{Contains-head, Contains-tail, none_in, only_one, Cut, cut_at, cut_in, each_in, From, each_from, each_at, each_by}
-use Rattle.module_check.proofs.Standing.{along, a_size_scope, left_known}
+use Rattle.module_check.specs.Spots.{Spot, spot, each, expr_in, exprs_in, same_in, tests_in, guard_in, pattern_in, patterns_in, matched_in, item_in, items_in, built_in_turn, segment_in, alt_in, branch_in, qual_layer_in, quals_in, comprehension_in, expr_layer_in, pattern_layer_in, size_scope, inside_segment, inside, clause_in, clauses_in, Under, here, deeper}
+use Rattle.module_check.proofs.Spots.{none_in, only_one, cut_in, each_from}
+use Rattle.module_check.proofs.Standing.{a_size_scope, left_known}
 use Rattle.module_check.proofs.Complete.{reversed}
 
 first_or_later : {X : Type 0} (y : X) (ys : List X) (d : X) → Contains (y ∷ ys) d → (y ≡ d) ⊎ Contains ys d
@@ -116,7 +110,7 @@ module _ (f : Function) where
           | inl m ↦ moved f (spot t (AnExpr y)) d m (source s e ys quals front g back y st co i (bits g at sgs y is))
           | inr m ↦ (let r = each_from (segment_in side.Generator (to_generate t)) [] sgs d m in
               moved f (spot (past_segments r.front (to_generate t)) (ASegment side.Generator (is_empty r.back) r.one)) d (only_one _ d r.adds)
-                (bit_generator s e ys quals front g back at sgs r.front r.one r.back y st co i is r.is))
+              (bit_generator s e ys quals front g back at sgs r.front r.one r.back y st co i is r.is))
         ]
     from_qual ys quals front g back co i (O.Filter at y) h k =
         let t : Scope = past_quals front (past_row ys quals s) in
@@ -138,9 +132,9 @@ module _ (f : Function) where
     from_expr (O.BitsFor at ys quals) h k = from_comprehension ys quals (bits e at ys quals (h ∙ x.rolls-BitsFor at ys quals)) k
     from_expr (O.Call at home n ys) h k = from_parts ys (call e at home n ys (h ∙ x.rolls-Call at home n ys)) k
     from_expr (O.Case at ys alts) h k = elim (Contains-append_cases (exprs_in s ys) (each (alt_in (behind ys s)) [] alts) d k) [
-        | inl m ↦ from_parts ys (case e at ys alts (h ∙ x.rolls-Case at ys alts)) m
-        | inr m ↦ from_alts ys alts (case e at ys alts (h ∙ x.rolls-Case at ys alts)) m
-      ]
+      | inl m ↦ from_parts ys (case e at ys alts (h ∙ x.rolls-Case at ys alts)) m
+      | inr m ↦ from_alts ys alts (case e at ys alts (h ∙ x.rolls-Case at ys alts)) m
+    ]
     from_expr (O.Receive at alts) h k = from_alts [] alts (receive e at alts (h ∙ x.rolls-Receive at alts)) k
     from_expr (O.If at bs) h k = from_branches at bs (h ∙ x.rolls-If at bs) k
     from_expr (O.Unary at op ys) h k = from_parts ys (unary e at op ys (h ∙ x.rolls-Unary at op ys)) k
@@ -173,9 +167,9 @@ module _ (f : Function) where
 
   from_segment : (s : Scope) (on : SideUse) (last : Bool) (sg : Segment) (d : Spot) → Stands f s (ASegment on last sg) → Contains (inside_segment s on sg) d → Stand f d
   from_segment s side.Build last sg d st h = elim (first_or_later (spot s (AnExpr sg.value)) (each (same_in (behind (sg.value ∷ []) s)) [] (sizes_of sg)) d h) [
-      | inl k ↦ moved f (spot s (AnExpr sg.value)) d k (segment_value s last sg st)
-      | inr k ↦ from_sizes (behind (sg.value ∷ []) s) sg d (λ e i. segment_size s last sg e st i) k
-    ]
+    | inl k ↦ moved f (spot s (AnExpr sg.value)) d k (segment_value s last sg st)
+    | inr k ↦ from_sizes (behind (sg.value ∷ []) s) sg d (λ e i. segment_size s last sg e st i) k
+  ]
   from_segment s side.Match last sg d st h = from_sizes (size_scope s) sg d (λ e i. from_size s side.Match last sg st (λ k. cc) e i) h
   from_segment s side.Generator last sg d st h = from_sizes (size_scope s) sg d (λ e i. from_size s side.Generator last sg st (λ k. cc) e i) h
 
@@ -188,7 +182,7 @@ module _ (f : Function) where
             let back_again : i.patterns ≡ reverse r.back ++ r.one ∷ reverse r.front = sym (reverse-reverse i.patterns) ∙ ap reverse r.is ∙ reversed r.front r.one r.back in
             let P : List Pattern → Type 0 = λ zs. Stands f (to_match (with_known (targets_of zs) t)) (APattern r.one) in
             moved f (spot (to_match (with_known (targets_of r.front) t)) (APattern r.one)) d (only_one _ d r.adds)
-              (subst P (reverse-reverse r.front) (item_pattern s is front i back (reverse r.back) r.one (reverse r.front) st e back_again)))
+            (subst P (reverse-reverse r.front) (item_pattern s is front i back (reverse r.back) r.one (reverse r.front) st e back_again)))
       ]
 
   sound_of : (s : Scope) (y : Part) (d : Spot) → Stands f s y → Contains (inside s y) d → Stand f d

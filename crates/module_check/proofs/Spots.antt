@@ -1,10 +1,10 @@
 -- What stands in a function stands inside one of its clauses.
-use Rattle.std.proofs.Common.{◌≡◌, ℕ, suc, zero, ◌+◌, ◌<◌, ◌≤◌, Bool, true, false, cond, List, [], ◌∷◌, ◌++◌, length, get_or, take, drop, map, reverse, Option, Some, None, refl, sym, ◌∙◌, ap, subst, ◌⊎◌, inl, inr, arith, lit<}
-use Rattle.std.specs.List.{Contains, flat_map}
+use Rattle.std.proofs.Common.{◌≡◌, suc, zero, List, [], ◌∷◌, ◌++◌, take, drop, refl, sym, ◌∙◌, ap, subst, inl, inr, arith}
+use Rattle.std.specs.List.{Contains}
 use Rattle.std.proofs.lemmas.List.{append-nil, append_assoc}
-use Rattle.std.proofs.lemmas.List.Elements.{Contains-append_left, Contains-append_right, Contains-append_cases, Contains-push}
+use Rattle.std.proofs.lemmas.List.Elements.{Contains-append_left, Contains-append_right, Contains-append_cases}
 use Rattle.std.proofs.Math.Seq.{split_at}
-use Rattle.module_check.specs.Spots.{Spot, spot, each}
+use Rattle.module_check.specs.Spots.{Spot, each}
 
 pub Contains-head : {X : Type 0} (x : X) (xs : List X) → Contains (x ∷ xs) x
 Contains-head x xs = (0, omega arith, refl)
@@ -39,7 +39,7 @@ module _ {X : Type 0} (Adds : List X → X → List X → List Spot) where
   each_in before (z ∷ front) y back d h =
       let P : List X → Type 0 = λ b. Contains (Adds b y back) d in
       Contains-append_right (Adds before z (front ++ y ∷ back)) (each Adds (before ++ z ∷ []) (front ++ y ∷ back)) d
-        (each_in (before ++ z ∷ []) front y back d (subst P (sym (append_assoc before (z ∷ []) front)) h))
+      (each_in (before ++ z ∷ []) front y back d (subst P (sym (append_assoc before (z ∷ []) front)) h))
 
   -- where what a list adds comes from
   pub record From (before ys : List X) (d : Spot) : Type 0 where

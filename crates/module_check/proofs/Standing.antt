@@ -1,34 +1,28 @@
 -- What stands in a function stands inside one of its clauses, and the other way round.
-use Rattle.std.proofs.Common.{◌≡◌, ◌≢◌, ℕ, suc, zero, ◌+◌, ◌<◌, ◌≤◌, Bool, true, false, cond, List, [], ◌∷◌, ◌++◌, length, map, reverse, Option, Some, None, refl, sym, ◌∙◌, ap, subst, ◌⊎◌, inl, inr, arith}
-use Rattle.std.specs.List.{Contains, flat_map, All}
+use Rattle.std.proofs.Common.{◌≡◌, ℕ, Bool, true, false, cond, List, [], ◌∷◌, ◌++◌, map, refl, sym, ◌∙◌, ap, subst, ◌⊎◌, inl, inr, arith}
+use Rattle.std.specs.List.{Contains, All}
 use Rattle.std.specs.Str.{bytes_eq}
-use Rattle.std.proofs.lemmas.List.{append-nil, append_assoc, reverse-append, map-append}
-use Rattle.std.proofs.lemmas.List.Elements.{Contains-append_left, Contains-append_right, Contains-append_cases, Contains-push, All-head, All-tail, All-cons, All-nil, All-contains, recursion_from_All, All-from_recursion}
+use Rattle.std.proofs.lemmas.List.{map-append}
+use Rattle.std.proofs.lemmas.List.Elements.{Contains-append_right, Contains-append_cases, All-head, All-tail, All-cons, All-nil}
 use Rattle.std.proofs.lemmas.Slice.Eq.{bytes_eq-Decides}
-use Rattle.erl_syntax.specs.Bindings.{Bound, names, targets, targets_of, segment_targets}
-use Rattle.erl_syntax.specs.Scopes
-use Rattle.erl_syntax.specs.Scopes.{Scope, Part, AnExpr, APattern, ABody, ASegment, Stands, Found, IsKnown, nothing_known, with_known, behind, in_guard, to_match, to_generate, past_patterns, past_segments, past_items, generated, past_quals, past_row, is_empty, sizes_of, IsSizeScope, Parts, Chooses, IsAlt, IsBranch, Comprehends, PatternParts, HasSource}
+use Rattle.erl_syntax.specs.Bindings.{Bound, names}
+use Rattle.erl_syntax.specs.Scopes.{Scope, AnExpr, APattern, Found, IsKnown, behind, to_generate, IsSizeScope}
 use Rattle.erl_syntax.specs.declared.span.Span.{Span}
-use Rattle.erl_syntax.specs.declared.expr.Expr.{Expr, out-Expr, roll-Expr, out-roll-Expr, roll-out-Expr}
+use Rattle.erl_syntax.specs.declared.expr.Expr.{Expr, out-roll-Expr}
 use Rattle.erl_syntax.specs.declared.expr.Expr.TheVariants as x
 use Rattle.erl_syntax.specs.declared.expr.Expr.TheOpen as O
 use Rattle.erl_syntax.specs.declared.expr.Op.{Op}
 use Rattle.erl_syntax.specs.declared.expr.Prefix.{Prefix}
-use Rattle.erl_syntax.specs.declared.pattern.Pattern.{Pattern, out-Pattern, roll-Pattern, out-roll-Pattern, roll-out-Pattern}
+use Rattle.erl_syntax.specs.declared.pattern.Pattern.{Pattern, out-roll-Pattern}
 use Rattle.erl_syntax.specs.declared.pattern.Pattern.TheVariants as p
 use Rattle.erl_syntax.specs.declared.segment.Segment.{Segment}
-use Rattle.erl_syntax.specs.declared.qual.Qual.{Qual, out-Qual, roll-Qual, out-roll-Qual, roll-out-Qual}
+use Rattle.erl_syntax.specs.declared.qual.Qual.{Qual, out-roll-Qual}
 use Rattle.erl_syntax.specs.declared.qual.Qual.TheVariants as q
-use Rattle.erl_syntax.specs.declared.clause.Item.{Item}
-use Rattle.erl_syntax.specs.declared.clause.Guard.{Guard}
-use Rattle.erl_syntax.specs.declared.clause.Alt.{Alt, out-Alt, roll-Alt, out-roll-Alt, roll-out-Alt}
-use Rattle.erl_syntax.specs.declared.clause.Branch.{Branch, out-Branch, roll-Branch, out-roll-Branch, roll-out-Branch}
-use Rattle.erl_syntax.specs.declared.module.Function.{Function}
-use Rattle.erl_syntax.specs.declared.module.Clause.{Clause}
-use Rattle.erl_syntax.specs.declared.typing.SideUse.{SideUse}
+use Rattle.erl_syntax.specs.declared.clause.Alt.{Alt}
+use Rattle.erl_syntax.specs.declared.clause.Branch.{Branch}
 use Rattle.erl_syntax.specs.declared.typing.SideUse.TheVariants as side
-use Rattle.module_check.specs.Spots.{Spot, spot, each, expr_in, exprs_in, same_in, tests_in, guard_in, pattern_in, patterns_in, matched_in, item_in, items_in, built_in_turn, segment_in, alt_layer_in, alt_in, branch_layer_in, branch_in, qual_layer_in, qual_in, quals_in, comprehension_in, expr_layer_in, inside_expr, pattern_layer_in, inside_pattern, place_of, shown, size_scope, inside_segment, inside, clause_in, clauses_in, Under, here, deeper, IsUnder}
-use Rattle.module_check.proofs.Spots.{Contains-head, Contains-tail, none_in, only_one, Cut, cut_at, cut_in, each_in, From, each_from, each_at, each_by}
+use Rattle.module_check.specs.Spots.{Spot, spot, each, exprs_in, patterns_in, built_in_turn, segment_in, alt_in, branch_in, qual_layer_in, qual_in, comprehension_in, expr_layer_in, inside_expr, pattern_layer_in, inside_pattern, place_of, shown, size_scope}
+use Rattle.module_check.proofs.Spots.{Contains-head, Contains-tail, none_in, only_one}
 
 -- by the form of an expression
 module _ (s : Scope) (e : Expr) (at : Span) where
@@ -108,10 +102,10 @@ found_place (b ∷ bs) name at d (inr h) =
       | inl t ↦ absurd (h.0 ((bytes_eq-Decides b.name name).0 t))
       | inr t ↦ ap (λ t. cond t b.at (place_of bs name d)) t ∙ found_place bs name at d h.1
     ]
-    where
-      the_test : (r : Bool) → (r ≡ true) ⊎ (r ≡ false)
-      the_test true = inl refl
-      the_test false = inr refl
+  where
+    the_test : (r : Bool) → (r ≡ true) ⊎ (r ≡ false)
+    the_test true = inl refl
+    the_test false = inr refl
 
 test : (r : Bool) → (r ≡ true) ⊎ (r ≡ false)
 test true = inl refl
@@ -153,7 +147,7 @@ all_found : (known left : List Bound) → ((b : Bound) → Contains left b → I
 all_found known [] h = All-nil (λ (b : Bound). Found known b.name b.at)
 all_found known (b ∷ left) h =
     All-cons (λ (b : Bound). Found known b.name b.at) (record { name = b.name; at = place_of known b.name b.at }) (map (λ b. record { name = b.name; at = place_of known b.name b.at }) left) (known_found known b.name b.at (h b (Contains-head b left)))
-      (all_found known left (λ c k. h c (Contains-tail b left c k)))
+    (all_found known left (λ c k. h c (Contains-tail b left c k)))
 
 pub a_size_scope : (s : Scope) → ((b : Bound) → Contains s.left b → IsKnown s.known b.name) → IsSizeScope s (size_scope s)
 a_size_scope s h = record { shown = shown s; same = same_names s.known s.left; places = all_found s.known s.left h; is = refl }
@@ -161,9 +155,9 @@ a_size_scope s h = record { shown = shown s; same = same_names s.known s.left; p
 named : (bs : List Bound) (b : Bound) → Contains bs b → Contains (names bs) b.name
 named [] b h = absurd (none_in b h)
 named (a ∷ bs) b h = elim (Contains-append_cases (a ∷ []) bs b h) [
-    | inl k ↦ (let P : Bound → Type 0 = λ z. Contains (a.name ∷ names bs) z.name in subst P (only_one a b k) (Contains-head a.name (names bs)))
-    | inr k ↦ Contains-tail a.name (names bs) b.name (named bs b k)
-  ]
+  | inl k ↦ (let P : Bound → Type 0 = λ z. Contains (a.name ∷ names bs) z.name in subst P (only_one a b k) (Contains-head a.name (names bs)))
+  | inr k ↦ Contains-tail a.name (names bs) b.name (named bs b k)
+]
 
 pub left_known : (known left : List Bound) (b : Bound) → Contains left b → IsKnown (known ++ left) b.name
 left_known known left b h =

@@ -1,46 +1,25 @@
 -- Tasks that stand for spots.
-use Rattle.std.proofs.Common.{◌≡◌, ◌≢◌, ℕ, suc, zero, ◌+◌, ◌<◌, ◌≤◌, Bool, true, false, cond, List, [], ◌∷◌, ◌++◌, length, map, reverse, Option, Some, None, refl, sym, ◌∙◌, ap, subst, ◌⊎◌, inl, inr, arith}
-use Rattle.std.specs.List.{Contains, flat_map, All}
-use Rattle.std.specs.Str.{bytes_eq}
+use Rattle.std.proofs.Common.{◌≡◌, ℕ, suc, zero, ◌+◌, ◌<◌, ◌≤◌, true, List, [], ◌∷◌, ◌++◌, length, map, reverse, refl, sym, ◌∙◌, ap, subst, arith}
 use Rattle.std.proofs.lemmas.List.{append-nil, append_assoc, reverse-append, map-append}
-use Rattle.std.proofs.lemmas.List.Elements.{Contains-append_left, Contains-append_right, Contains-append_cases, Contains-push, All-head, All-tail, All-cons, All-nil, All-contains, recursion_from_All, All-from_recursion}
-use Rattle.std.proofs.lemmas.Slice.Eq.{bytes_eq-Decides}
-use Rattle.erl_syntax.specs.Bindings.{Bound, names, targets, targets_of, segment_targets}
-use Rattle.erl_syntax.specs.Scopes
-use Rattle.erl_syntax.specs.Scopes.{Scope, Part, AnExpr, APattern, ABody, ASegment, Found, IsKnown, nothing_known, with_known, behind, in_guard, to_match, to_generate, past_patterns, past_segments, past_items, generated, past_quals, past_row, is_empty, sizes_of}
-use Rattle.erl_syntax.specs.declared.span.Span.{Span}
-use Rattle.erl_syntax.specs.declared.expr.Expr.{Expr, out-Expr, roll-Expr, out-roll-Expr, roll-out-Expr}
-use Rattle.erl_syntax.specs.declared.expr.Expr.TheVariants as x
-use Rattle.erl_syntax.specs.declared.expr.Expr.TheOpen as O
-use Rattle.erl_syntax.specs.declared.expr.Op.{Op}
-use Rattle.erl_syntax.specs.declared.expr.Prefix.{Prefix}
-use Rattle.erl_syntax.specs.declared.pattern.Pattern.{Pattern, out-Pattern, roll-Pattern, out-roll-Pattern, roll-out-Pattern}
-use Rattle.erl_syntax.specs.declared.pattern.Pattern.TheVariants as p
-use Rattle.erl_syntax.specs.declared.segment.Segment.{Segment}
-use Rattle.erl_syntax.specs.declared.qual.Qual.{Qual, out-Qual, roll-Qual, out-roll-Qual, roll-out-Qual}
-use Rattle.erl_syntax.specs.declared.qual.Qual.TheVariants as q
+use Rattle.erl_syntax.specs.Bindings.{Bound, targets, targets_of}
+use Rattle.erl_syntax.specs.Scopes.{Scope, Part, AnExpr, APattern, ABody, ASegment, with_known, behind, in_guard, to_match, past_patterns, past_items}
+use Rattle.erl_syntax.specs.declared.expr.Expr.{Expr}
+use Rattle.erl_syntax.specs.declared.pattern.Pattern.{Pattern}
 use Rattle.erl_syntax.specs.declared.clause.Item.{Item}
-use Rattle.erl_syntax.specs.declared.clause.Guard.{Guard}
-use Rattle.erl_syntax.specs.declared.clause.Alt.{Alt, out-Alt, roll-Alt, out-roll-Alt, roll-out-Alt}
-use Rattle.erl_syntax.specs.declared.clause.Branch.{Branch, out-Branch, roll-Branch, out-roll-Branch, roll-out-Branch}
-use Rattle.erl_syntax.specs.declared.module.Function.{Function}
-use Rattle.erl_syntax.specs.declared.module.Clause.{Clause}
-use Rattle.erl_syntax.specs.declared.typing.SideUse.{SideUse}
 use Rattle.erl_syntax.specs.declared.typing.SideUse.TheVariants as side
-use Rattle.module_check.specs.Spots.{Spot, spot, each, expr_in, exprs_in, same_in, tests_in, guard_in, pattern_in, patterns_in, matched_in, item_in, items_in, built_in_turn, segment_in, alt_layer_in, alt_in, branch_layer_in, branch_in, qual_layer_in, qual_in, quals_in, comprehension_in, expr_layer_in, inside_expr, pattern_layer_in, inside_pattern, place_of, shown, size_scope, inside_segment, inside, clause_in, clauses_in, Under, here, deeper, IsUnder}
-use Rattle.module_check.proofs.Spots.{Contains-head, Contains-tail, none_in, only_one, Cut, cut_at, cut_in, each_in, From, each_from, each_at, each_by}
-use Rattle.std.proofs.Common.{get_or, take, drop, ◌-◌}
+use Rattle.module_check.specs.Spots.{Spot, each, size_scope}
+use Rattle.std.proofs.Common.{get_or, take, drop}
 use Rattle.std.proofs.lemmas.List.{take_more, take_all, drop_more}
 use Rattle.std.proofs.lemmas.Grind.{flat_map-append}
-use Rattle.erl_syntax.specs.Scopes.{Danger, IsUnsafe}
-use Rattle.erl_syntax.specs.Bindings.{vars_of, new_names, qual_unsafe}
+use Rattle.erl_syntax.specs.Scopes.{Danger}
+use Rattle.erl_syntax.specs.Bindings.{vars_of}
 use Rattle.module_check.specs.declared.scopes.Node.{Node}
 use Rattle.module_check.specs.declared.tasks.Setting.{Setting}
 use Rattle.module_check.specs.declared.tasks.Task.{Task}
 use Rattle.module_check.specs.declared.tasks.Walk.{Walk}
-use Rattle.module_check.specs.Nodes.{Agree, Sees, SeesUnsafe, Grown, Chain, none}
-use Rattle.module_check.specs.Tasks.{part_of, Means, SeesSizes, Fits, AllFit, Adds}
-use Rattle.module_check.proofs.Chained.{grown_same, grown_twice, sees_grown, unsafe_grown, itself}
+use Rattle.module_check.specs.Nodes.{Sees, SeesUnsafe, Grown}
+use Rattle.module_check.specs.Tasks.{Means, SeesSizes, Fits, AllFit, Adds}
+use Rattle.module_check.proofs.Chained.{grown_same, grown_twice, sees_grown, unsafe_grown}
 
 drop_all : {X : Type 0} (xs : List X) (i : ℕ) → length xs ≤ i → drop i xs ≡ []
 drop_all [] zero l = refl
@@ -115,8 +94,8 @@ module _ {X : Type 0} (At : List X → X → List X → List Spot) (front all : 
     done = f.done ++ At (front ++ passed) one left;
     adds = adds_twice w v u f.done (At (front ++ passed) one left) f.adds a;
     is = append_assoc f.done (At (front ++ passed) one left) (each At (front ++ (passed ++ one ∷ [])) left)
-      ∙ ap (λ zs. f.done ++ (At (front ++ passed) one left ++ each At zs left)) (sym (append_assoc front passed (one ∷ [])))
-      ∙ f.is;
+        ∙ ap (λ zs. f.done ++ (At (front ++ passed) one left ++ each At zs left)) (sym (append_assoc front passed (one ∷ [])))
+        ∙ f.is;
   }
 
   pub far_on : (w v u : Walk) (i : ℕ) (one : X) → i < length all → one ≡ get_or all i one → Far w v At front (take i all) (drop i all) all → Adds v u (At (front ++ take i all) one (drop (i + 1) all)) → Far w u At front (take (i + 1) all) (drop (i + 1) all) all
@@ -124,7 +103,7 @@ module _ {X : Type 0} (At : List X → X → List X → List Spot) (front all : 
       let P : List X → Type 0 = λ zs. Far w v At front (take i all) zs all in
       let Q : List X → Type 0 = λ zs. Far w u At front zs (drop (i + 1) all) all in
       subst Q (ap (λ z. take i all ++ z ∷ []) e ∙ sym (take_more all i one l))
-        (far_step w v u (take i all) one (drop (i + 1) all) (subst P (drop_more all i one l ∙ ap (λ z. z ∷ drop (i + 1) all) (sym e)) f) a)
+      (far_step w v u (take i all) one (drop (i + 1) all) (subst P (drop_more all i one l ∙ ap (λ z. z ∷ drop (i + 1) all) (sym e)) f) a)
 
   pub far_finish : (w v : Walk) (passed : List X) → Far w v At front passed [] all → Adds w v (each At front all)
   far_finish w v passed f = adds_same w v f.done (each At front all) (sym (append-nil f.done) ∙ f.is) f.adds

@@ -1,7 +1,7 @@
 -- Looking at all that stands in a function.
-use Rattle.std.proofs.Common.{◌≡◌, ◌≢◌, ℕ, suc, ◌+◌, ◌<◌, ◌≤◌, Bool, true, false, List, [], ◌∷◌, ◌++◌, length, get_or, take, Option, Some, None, refl, sym, ◌∙◌, ap, subst, ◌⊎◌, inl, inr, arith}
+use Rattle.std.proofs.Common.{◌≡◌, ℕ, ◌<◌, List, [], ◌∷◌, ◌++◌, length, get_or, take, Option, Some, None, refl, sym, ◌∙◌, ap, subst, ◌⊎◌, inl, inr}
 use Rattle.std.specs.List.{Contains}
-use Rattle.std.proofs.lemmas.List.{append-nil, append_assoc, get_or_default}
+use Rattle.std.proofs.lemmas.List.{get_or_default}
 use Rattle.std.proofs.lemmas.List.Elements.{Contains-append_left, Contains-append_right, Contains-append_cases, Contains-push}
 use Rattle.erl_syntax.specs.declared.span.Span.{Span}
 use Rattle.erl_syntax.specs.declared.module.Module.{Module}
@@ -12,12 +12,11 @@ use Rattle.module_check.specs.declared.scopes.Node.{Node}
 use Rattle.module_check.specs.declared.tasks.Task.{Task}
 use Rattle.module_check.specs.declared.tasks.Walk.{Walk}
 use Rattle.module_check.specs.Order.{NotAfter, IsFirstOf, IsLeast, Either}
-use Rattle.module_check.specs.Nodes.{Grown}
 use Rattle.module_check.specs.Spots.{Spot, inside, clauses_in, Under, here, deeper, IsUnder}
 use Rattle.module_check.specs.Tasks.{Fits, AllFit, Adds}
 use Rattle.module_check.specs.Faults.{Own, InnerFault, ClausesFault, FunctionFault}
 use Rattle.module_check.proofs.Firsts.{in_turn, same_least, least_of_both}
-use Rattle.module_check.proofs.Spots.{Contains-head, none_in, only_one}
+use Rattle.module_check.proofs.Spots.{none_in, only_one}
 use Rattle.module_check.proofs.Complete.{one_more}
 use Rattle.module_check.proofs.Tasked.{all_grown, all_joined}
 
@@ -122,11 +121,12 @@ step m f w v old rest task best own new e g o first adds l =
     by_under : (d : Spot) (before : List Spot) (d0 : Spot) → IsLeast (Own m d0.scope d0.part) own → IsFirstOf best own new → Under d0 d → ((at : Span) (why : CheckCause) → Own m d.scope d.part at why → Covers new at why) ⊎ ((e : Spot) × (Contains (before ++ inside d0.scope d0.part) e × Under e d))
     by_under d before d0 least first (here _ _ e) = inl (λ at why z. covers_new best own new at why first (least_covers (Own m d0.scope d0.part) own at why least (let S : Spot → Type 0 = λ v. Own m v.scope v.part at why in subst S (sym e) z)))
     by_under d before d0 least first (deeper _ b _ i u) = inr (b, (Contains-append_right before (inside d0.scope d0.part) b i, u))
+
     cover : (d : Spot) (before : List Spot) (d0 : Spot) → IsLeast (Own m d0.scope d0.part) own → IsFirstOf best own new → {e : Spot} → Contains (before ++ d0 ∷ []) e → Under e d → ((at : Span) (why : CheckCause) → Own m d.scope d.part at why → Covers new at why) ⊎ ((e : Spot) × (Contains (before ++ inside d0.scope d0.part) e × Under e d))
     cover d before d0 least first {e} h u = elim (Contains-append_cases before (d0 ∷ []) e h) [
-        | inl k ↦ inr (e, (Contains-append_left before (inside d0.scope d0.part) e k, u))
-        | inr k ↦ by_under d before d0 least first (let S : Spot → Type 0 = λ v. Under v d in subst S (sym (only_one d0 e k)) u)
-      ]
+      | inl k ↦ inr (e, (Contains-append_left before (inside d0.scope d0.part) e k, u))
+      | inr k ↦ by_under d before d0 least first (let S : Spot → Type 0 = λ v. Under v d in subst S (sym (only_one d0 e k)) u)
+    ]
 
 none_fit : (nodes : List Node) (spots : List Spot) → AllFit nodes [] spots → spots ≡ []
 none_fit nodes [] h = refl
@@ -141,10 +141,10 @@ finish m f nodes tasks best e l =
       | inr z ↦ absurd (let S : List Spot → Type 0 = λ zs. Contains zs z.0 in none_in z.0 (subst S none z.1.0))
     ] in
     ended best l.told all
-    where
-      ended : (r : Option CheckFault) → Holds (InnerFault m f) r → ((at : Span) (why : CheckCause) → InnerFault m f at why → Covers r at why) → IsLeast (InnerFault m f) r
-      ended None h k = k
-      ended (Some a) h k = (h, k)
+  where
+    ended : (r : Option CheckFault) → Holds (InnerFault m f) r → ((at : Span) (why : CheckCause) → InnerFault m f at why → Covers r at why) → IsLeast (InnerFault m f) r
+    ended None h k = k
+    ended (Some a) h k = (h, k)
 
 pub function_least : (m : Module) (k : ℕ) (f : Function) (before : List Function) (a b r : Option CheckFault) → k < length m.functions → f ≡ get_or m.functions k f → before ≡ take k m.functions
     → IsLeast (ClausesFault before f f.clauses) a → IsLeast (InnerFault m f) b → IsFirstOf a b r → IsLeast (FunctionFault m k) r
@@ -152,7 +152,7 @@ function_least m k f before a b r l e g p q h =
     let P : List Function → Type 0 = λ zs. IsLeast (ClausesFault zs f f.clauses) a in
     let One = Either (ClausesFault (take k m.functions) f f.clauses) (InnerFault m f) in
     same_least One (FunctionFault m k) r
-      (λ at why z. (f, ((l, e), z)))
-      (λ at why z. (let s : z.0 ≡ f = z.1.0.1 ∙ get_or_default m.functions k z.0 f l ∙ sym e in
-        let Q : Function → Type 0 = λ v. Either (ClausesFault (take k m.functions) v v.clauses) (InnerFault m v) at why in subst Q s z.1.1))
-      (least_of_both (ClausesFault (take k m.functions) f f.clauses) (InnerFault m f) a b r (subst P g p) q h)
+    (λ at why z. (f, ((l, e), z)))
+    (λ at why z. (let s : z.0 ≡ f = z.1.0.1 ∙ get_or_default m.functions k z.0 f l ∙ sym e in
+    let Q : Function → Type 0 = λ v. Either (ClausesFault (take k m.functions) v v.clauses) (InnerFault m v) at why in subst Q s z.1.1))
+    (least_of_both (ClausesFault (take k m.functions) f f.clauses) (InnerFault m f) a b r (subst P g p) q h)

@@ -1,15 +1,12 @@
 -- The faults of a module are those of its parts.
-use Rattle.std.proofs.Common.{◌≡◌, ◌≢◌, ℕ, suc, ◌+◌, ◌<◌, ◌≤◌, pos, Bool, true, false, List, [], ◌∷◌, ◌++◌, length, get_or, take, drop, Option, Some, None, refl, sym, ◌∙◌, ap, subst, ◌⊎◌, inl, inr, arith, lit<}
+use Rattle.std.proofs.Common.{◌≡◌, ◌≢◌, ℕ, suc, ◌+◌, ◌<◌, ◌≤◌, Bool, List, [], ◌∷◌, ◌++◌, length, get_or, take, drop, Some, None, refl, sym, ◌∙◌, ap, subst, ◌⊎◌, inl, inr, arith, lit<}
 use Rattle.std.specs.List.{Contains}
-use Rattle.std.specs.Prelude.{codes}
 use Rattle.std.proofs.Common.{◌-◌}
 use Rattle.std.proofs.Math.Nat.{eq-or-lt_of_le}
 use Rattle.std.proofs.lemmas.List.{take_at, get_or-drop, length-drop, length-append, get_or_default}
 use Rattle.std.proofs.Math.Seq.{split_at, get_or-append_seam}
-use Rattle.erl_syntax.specs.BuiltIns.{is_for_guards}
-use Rattle.erl_syntax.specs.Scopes.{Scope, Part, AnExpr, APattern, ABody, ASegment, Stands, IsKnown, IsUnsafe}
-use Rattle.erl_syntax.specs.Typing.{HasFault}
-use Rattle.erl_syntax.specs.Checking.{Spelled, HasFunction, IsExported, CallsBuiltIn, CallsOwn, IsIn, IsCalled, IsTarget, in_pattern, in_segment, IsRead, Fault, segment, module_again, heads_differ, function_again, built_in_again, export_missing, undefined, call_in_guard, unbound, unsafe_read, unsafe_target, no_module, no_main, IsBefore, StandsBefore, check_causes, IsFirstFault, IsAccepted}
+use Rattle.erl_syntax.specs.Scopes.{Scope, Part, AnExpr, APattern, ABody, ASegment, Stands}
+use Rattle.erl_syntax.specs.Checking.{CallsBuiltIn, IsCalled, IsTarget, in_pattern, in_segment, IsRead, Fault, segment, module_again, heads_differ, function_again, built_in_again, export_missing, undefined, call_in_guard, unbound, unsafe_read, unsafe_target, no_module, no_main, StandsBefore, check_causes, IsFirstFault, IsAccepted}
 use Rattle.erl_syntax.specs.declared.span.Span.{Span}
 use Rattle.erl_syntax.specs.declared.expr.Expr.{Expr, out-Expr, roll-Expr, out-roll-Expr, roll-out-Expr}
 use Rattle.erl_syntax.specs.declared.expr.Expr.TheVariants as x
@@ -24,21 +21,17 @@ use Rattle.erl_syntax.specs.declared.clause.Alt.{Alt}
 use Rattle.erl_syntax.specs.declared.clause.Branch.{Branch}
 use Rattle.erl_syntax.specs.declared.module.Module.{Module}
 use Rattle.erl_syntax.specs.declared.module.Head.{Head}
-use Rattle.erl_syntax.specs.declared.module.Name.{Name}
 use Rattle.erl_syntax.specs.declared.module.Function.{Function}
 use Rattle.erl_syntax.specs.declared.module.Clause.{Clause}
 use Rattle.erl_syntax.specs.declared.typing.SideUse.{SideUse}
 use Rattle.erl_syntax.specs.declared.typing.SideUse.TheVariants as side
-use Rattle.erl_syntax.specs.declared.typing.SegFault.{SegFault}
 use Rattle.erl_syntax.specs.declared.typing.SegFault.TheVariants as sf
-use Rattle.erl_syntax.specs.declared.built_in.BuiltIn.{BuiltIn}
 use Rattle.erl_syntax.specs.declared.checking.CheckCause.{CheckCause}
 use Rattle.erl_syntax.specs.declared.checking.CheckCause.TheVariants as c
 use Rattle.erl_syntax.specs.declared.checking.CheckFault.{CheckFault}
-use Rattle.module_check.specs.Order.{rank, NotAfter, IsLeast, Either, Below, Some_of, At}
-use Rattle.module_check.specs.Spots.{Spot, spot, IsUnder, Under}
-use Rattle.module_check.specs.Faults.{rest, HeadFault, IsMissing, ExportFault, HasNoMain, EndFault, Differs, DiffersFault, IsNamed, IsAmong, ClausesFault, FirstClause, NamedFault, IsOfBuiltIn, IsForGuards, BareFault, IsUndefined, CallFault, UnsafeFault, ReadFault, ExprFault, PatternFault, TargetFault, TypeFault, SegmentFault, Own, InnerFault, FunctionFault, AnyFault}
-use Rattle.module_check.proofs.Spots.{Contains-head, Contains-tail, cut_in}
+use Rattle.module_check.specs.Order.{rank, IsLeast, Either, Some_of, At}
+use Rattle.module_check.specs.Spots.{spot}
+use Rattle.module_check.specs.Faults.{rest, HeadFault, IsAmong, ClausesFault, FirstClause, BareFault, CallFault, UnsafeFault, ReadFault, ExprFault, PatternFault, TargetFault, TypeFault, SegmentFault, Own, InnerFault, FunctionFault, AnyFault}
 use Rattle.module_check.proofs.Complete.{complete}
 use Rattle.module_check.proofs.Sound.{root_stands, under_stands}
 
@@ -240,8 +233,10 @@ told m _ _ (no_module h) e = cc
 told m _ _ (no_main h) e = cc
 
 seventh : {X : Type 0} (xs : List X) (i j : ℕ) (a b : X) → i < j → j < length xs → get_or xs i a ≡ a → get_or xs j b ≡ b → (xs ≡ take i xs ++ a ∷ drop (suc i) xs) × Contains (drop (suc i) xs) b
-seventh xs i j a b l k e g = (split_at xs i a (omega arith) ∙ ap (λ z. take i xs ++ z ∷ drop (suc i) xs) e,
-    (j - suc i, simp length-drop (omega arith), get_or-drop (suc i) xs (j - suc i) b ∙ ap (λ n. get_or xs n b) (let q : suc i + (j - suc i) ≡ j = omega arith in q) ∙ g))
+seventh xs i j a b l k e g = (
+  split_at xs i a (omega arith) ∙ ap (λ z. take i xs ++ z ∷ drop (suc i) xs) e,
+  (j - suc i, simp length-drop (omega arith), get_or-drop (suc i) xs (j - suc i) b ∙ ap (λ n. get_or xs n b) (let q : suc i + (j - suc i) ≡ j = omega arith in q) ∙ g),
+)
 
 in_order : (why other : CheckCause) → (why ≡ c.NoMemory → ⊥) → (other ≡ c.NoMemory → ⊥) → rank why ≤ rank other → (why ≡ other) ⊎ StandsBefore why other
 in_order why other p q h =

@@ -1,5 +1,5 @@
 -- Scopes as the check keeps them: lists of names that share their ends.
-use Rattle.std.specs.Prelude.{◌≡◌, ℕ, suc, ◌<◌, ◌≤◌, List, [], ◌∷◌, ◌++◌, map, length, get_or, ◌⊎◌}
+use Rattle.std.specs.Prelude.{◌≡◌, ℕ, suc, ◌<◌, ◌≤◌, List, [], ◌∷◌, ◌++◌, map, length, get_or}
 use Rattle.erl_syntax.specs.Bindings.{Bound}
 use Rattle.erl_syntax.specs.Scopes.{Danger, Found, IsKnown, IsUnsafe}
 use Rattle.erl_syntax.specs.declared.span.Span.{Span}

@@ -1,5 +1,5 @@
 -- The parts of a function with the scopes in which they stand, and what stands right inside each.
-use Rattle.std.specs.Prelude.{◌≡◌, ℕ, Bool, true, false, cond, List, [], ◌∷◌, ◌++◌, map, reverse, Some, None, ◌⊎◌}
+use Rattle.std.specs.Prelude.{◌≡◌, ℕ, true, cond, List, [], ◌∷◌, ◌++◌, map, reverse}
 use Rattle.std.specs.Str.{bytes_eq}
 use Rattle.std.specs.List.{Contains, flat_map}
 use Rattle.erl_syntax.specs.Bindings.{Bound, targets, targets_of}

@@ -1,7 +1,7 @@
 -- What the parts of an expression leave unsafe.
-use Rattle.std.specs.Prelude.{ℕ, List, [], ◌∷◌, ◌++◌, Option, Some, None}
+use Rattle.std.specs.Prelude.{ℕ, List, [], ◌++◌, Option, Some, None}
 use Rattle.std.specs.List.{flat_map}
-use Rattle.erl_syntax.specs.Bindings.{Bound, names, targets, targets_of, vars_of}
+use Rattle.erl_syntax.specs.Bindings.{names, targets, targets_of, vars_of}
 use Rattle.erl_syntax.specs.declared.expr.Expr.{Expr}
 use Rattle.erl_syntax.specs.declared.segment.Segment.{Segment}
 use Rattle.erl_syntax.specs.declared.clause.Item.{Item}

@@ -44,13 +44,7 @@ fn is_own(tree: &Module, home: &Expr) -> bool
 }
 
 /// Whether a call with this before it, of this name and number of arguments, is of the built-in function.
-fn calls_built_in(
-    tree: &Module,
-    home: &[Expr],
-    name: u32,
-    arity: usize,
-    built_in: BuiltIn,
-) -> bool
+fn calls_built_in(tree: &Module, home: &[Expr], name: u32, arity: usize, built_in: BuiltIn) -> bool
     ensures { MatchBool result (CallsBuiltIn tree.now home.now name arity built_in) (CallsBuiltIn tree.now home.now name arity built_in → ⊥) }
 {
     if built_in.arity() != arity || !is_spelled(tree, name, built_in.name()) {
@@ -67,8 +61,7 @@ fn calls_built_in(
 fn is_of_any(tree: &Module, home: &[Expr], name: u32, arity: usize, all: &[BuiltIn]) -> bool
     ensures { MatchBool result ((b : BuiltIn) × (Contains all.now b × CallsBuiltIn tree.now home.now name arity b)) ((b : BuiltIn) → Contains all.now b → CallsBuiltIn tree.now home.now name arity b → ⊥) }
 {
-    all.iter()
-        .any(|built_in| calls_built_in(tree, home, name, arity, *built_in))
+    all.iter().any(|built_in| calls_built_in(tree, home, name, arity, *built_in))
 }
 
 /// Whether a call is of a built-in function.
@@ -101,8 +94,7 @@ fn is_for_guards_of_any(
 ) -> bool
     ensures { MatchBool result ((b : BuiltIn) × (Contains all.now b × (CallsBuiltIn tree.now home.now name arity b × (is_for_guards b ≡ true)))) ((b : BuiltIn) → Contains all.now b → CallsBuiltIn tree.now home.now name arity b × (is_for_guards b ≡ true) → ⊥) }
 {
-    all.iter()
-        .any(|built_in| is_for_guards_by(tree, home, name, arity, *built_in))
+    all.iter().any(|built_in| is_for_guards_by(tree, home, name, arity, *built_in))
 }
 
 /// Whether a call is of a built-in function that may be called in guards.

@@ -44,9 +44,8 @@ pub(crate) fn heads_fault(heads: &[Head]) -> Option<CheckFault>
 fn has_exported(functions: &[Function], export: &Name) -> bool
     ensures { MatchBool result ((f : Function) × (Contains functions.now f × IsExportOf export.now f)) ((f : Function) × (Contains functions.now f × IsExportOf export.now f) → ⊥) }
 {
-    functions
-        .iter()
-        .any(|function| function.name == export.name && function.arity as i128 == export.arity)
+    functions.iter().any(|function| function.name == export.name
+        && function.arity as i128 == export.arity)
 }
 
 /// Whether the module has no function of an exported name.
@@ -128,9 +127,7 @@ fn differs_fault(function: &Function, clauses: &[Clause]) -> Option<CheckFault>
 fn is_among(functions: &[Function], name: u32, arity: u32) -> bool
     ensures { MatchBool result (IsAmong functions.now name arity) (IsAmong functions.now name arity → ⊥) }
 {
-    functions
-        .iter()
-        .any(|function| function.name == name && function.arity == arity)
+    functions.iter().any(|function| function.name == name && function.arity == arity)
 }
 
 /// The first fault of a function's heads, where these functions stand before it.

@@ -125,10 +125,7 @@ fn add_segment<'a>(found: &mut Vec<Target<'a>>, segment: &'a Segment) -> Result<
 }
 
 #[cycle(left)]
-fn add_segments<'a>(
-    found: &mut Vec<Target<'a>>,
-    segments: &'a [Segment],
-) -> Result<(), AllocError>
+fn add_segments<'a>(found: &mut Vec<Target<'a>>, segments: &'a [Segment]) -> Result<(), AllocError>
     ensures { IfOk result (λ u. names (bounds_of found.new.items) ≡ names (bounds_of found.old.items) ++ segment_unsafe segments.now) }
 {
     for segment in segments {
@@ -149,10 +146,7 @@ fn add_alts<'a>(found: &mut Vec<Target<'a>>, alts: &'a [Alt]) -> Result<(), Allo
 }
 
 #[cycle(left)]
-fn add_branches<'a>(
-    found: &mut Vec<Target<'a>>,
-    branches: &'a [Branch],
-) -> Result<(), AllocError>
+fn add_branches<'a>(found: &mut Vec<Target<'a>>, branches: &'a [Branch]) -> Result<(), AllocError>
     ensures { IfOk result (λ u. names (bounds_of found.new.items) ≡ names (bounds_of found.old.items) ++ branches_unsafe branches.now) }
 {
     for branch in branches {

@@ -15,7 +15,9 @@ ghost use Rattle.module_check.specs.Tasks.{Means, SeesSizes, Fits, Adds, Passes,
 
 use crate::scopes::{Node, Target, append, append_all, endanger, find, put, put_all};
 use crate::targets::{add_new, add_qual_unsafe, add_segment_target, add_targets, add_unsafe};
-use erl_syntax::{Alt, Branch, Clause, Expr, Function, Guard, Item, Pattern, Qual, Segment, SideUse};
+use erl_syntax::{
+    Alt, Branch, Clause, Expr, Function, Guard, Item, Pattern, Qual, Segment, SideUse,
+};
 use std::alloc::{AllocError, Global};
 
 /// A part of a function.
@@ -359,10 +361,14 @@ impl<'a> Walk<'a> {
     {
         match qual {
             Qual::Items {
-                pattern, source, ..
+                pattern,
+                source,
+                ..
             } => self.push_generator(setting, source, pattern),
             Qual::Bits {
-                segments, source, ..
+                segments,
+                source,
+                ..
             } => self.push_bit_generator(setting, source, segments.items()),
             Qual::Filter { test, .. } => self.push(setting, Part::Expr(test)),
         }

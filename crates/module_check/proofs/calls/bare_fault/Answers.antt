@@ -1,9 +1,6 @@
-use Rattle.std.proofs.Common.{arith, subst, sym, ◌∙◌, refl, ◌≡◌, List, ap}
-use Rattle.erl_syntax.specs.Checking.{macro, Spelled}
-use Rattle.erl_syntax.specs.BuiltIns.{name_of}
+use Rattle.std.proofs.Common.{arith, ◌≡◌}
 use Rattle.std.proofs.lemmas.Bool.Decides.{nat_tests}
-use Rattle.std.proofs.Common.{ℕ, MatchBool, get_or, length, ◌<◌}
-use Rattle.module_check.proofs.Calling.{by_text, atom_by, own_by, none_at_all, one_at_all, bare_by, home_by, own_bare, own_home, bare_least}
+use Rattle.module_check.proofs.Calling.{none_at_all, bare_least}
 use Rattle.module_check.proofs.calls.bare_fault.Goals as goal
 
 pub returns-then-is_of_built_in : goal.returns-then-is_of_built_in

@@ -1,9 +1,8 @@
 use Rattle.erl_syntax.specs.declared.module.Head.{Head}
-use Rattle.std.proofs.Common.{arith, subst, sym, ◌∙◌, refl, ◌≡◌, List, ap}
-use Rattle.erl_syntax.specs.Checking.{macro, Spelled}
-use Rattle.erl_syntax.specs.BuiltIns.{name_of}
-use Rattle.std.proofs.Common.{ℕ, MatchBool, get_or, length, ◌<◌}
-use Rattle.module_check.proofs.Calling.{by_text, atom_by, own_by, none_at_all, one_at_all, bare_by, home_by, own_bare, own_home, bare_least}
+use Rattle.std.proofs.Common.{arith, ◌∙◌, ◌≡◌, List, ap}
+use Rattle.erl_syntax.specs.Checking.{macro}
+use Rattle.std.proofs.Common.{get_or}
+use Rattle.module_check.proofs.Calling.{own_by}
 use Rattle.module_check.proofs.calls.is_own.Goals as goal
 
 pub returns-in-ModuleName : goal.returns-in-ModuleName

@@ -1,12 +1,7 @@
-use Rattle.std.proofs.Common.{◌≡◌, ◌<◌, refl, sym, ◌∙◌, ap, arith, subst, inl, inr, List, length, take, get_or, Option, Some, None, ℕ}
-use Rattle.std.proofs.lemmas.Result.{IfOk-weaker}
-use Rattle.erl_syntax.specs.declared.module.Function.{Function}
-use Rattle.erl_syntax.specs.declared.module.Head.{Head}
-use Rattle.module_check.specs.Order.{IsLeast, Below, Either, Some_of}
-use Rattle.module_check.specs.Faults.{rest, HeadFault, ExportFault, EndFault, FunctionFault, AnyFault, ClausesFault}
-use Rattle.module_check.proofs.Firsts.{none_below, least_below, least_of_both}
-use Rattle.module_check.proofs.Walking.{function_least}
-use Rattle.module_check.proofs.Whole.{first_fault, accepted}
+use Rattle.std.proofs.Common.{◌≡◌, ap, arith, subst, length, ℕ}
+use Rattle.module_check.specs.Order.{IsLeast, Below}
+use Rattle.module_check.specs.Faults.{FunctionFault}
+use Rattle.module_check.proofs.Firsts.{none_below, least_below}
 use Rattle.module_check.proofs.checking.functions_fault.Goals as goal
 
 pub loop-index-init : goal.loop-index-init

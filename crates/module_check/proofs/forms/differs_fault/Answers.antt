@@ -1,10 +1,7 @@
-use Rattle.std.proofs.Common.{arith, subst, sym, ◌∙◌, refl, ◌≡◌, List, ap, get_or, drop, length}
+use Rattle.std.proofs.Common.{arith}
 use Rattle.erl_syntax.specs.declared.checking.CheckCause.TheVariants as w
-use Rattle.erl_syntax.specs.declared.module.Clause.{Clause}
-use Rattle.module_check.specs.Order.{IsLeast, Some_of}
-use Rattle.module_check.specs.Faults.{HeadFault, ExportFault, DiffersFault, ClausesFault}
+use Rattle.module_check.specs.Faults.{DiffersFault}
 use Rattle.module_check.proofs.Firsts.{least_if, least_more, least_all}
-use Rattle.module_check.proofs.Formed.{rest_drop, missing_by, no_main_by, clauses_least}
 use Rattle.module_check.proofs.forms.differs_fault.Goals as goal
 
 pub loop-clause-preserved : goal.loop-clause-preserved

@@ -1,6 +1,6 @@
 use Rattle.std.proofs.Common.{take}
 use Rattle.module_check.specs.Order.{IsLeast, Some_of}
-use Rattle.module_check.specs.Faults.{HeadFault, ExportFault, DiffersFault}
+use Rattle.module_check.specs.Faults.{ExportFault}
 use Rattle.module_check.proofs.forms.exports_fault.Given as goal
 
 abbrev pub invariant-loop-export : goal.invariant-loop-export

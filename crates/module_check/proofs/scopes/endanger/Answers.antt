@@ -1,14 +1,11 @@
-use Rattle.std.proofs.Common.{get_or, ◌<◌}
+use Rattle.std.proofs.Common.{get_or}
 use Rattle.std.proofs.lemmas.List.{get_or_default, take_all}
 use Rattle.module_check.specs.declared.scopes.Target.{Target}
 use Rattle.module_check.specs.Nodes.{SeesUnsafe}
-use Rattle.std.proofs.Common.{arith, subst, sym, ◌∙◌, refl, ◌≡◌, List, ap, length, ℕ, [], ◌∷◌, ◌++◌, take, drop, true, false}
-use Rattle.std.proofs.lemmas.Slice.Eq.{bytes_eq-Decides}
-use Rattle.std.proofs.lemmas.Result.{IfOk-weaker}
-use Rattle.erl_syntax.specs.Bindings.{Bound, names}
-use Rattle.erl_syntax.specs.Scopes.{Danger}
-use Rattle.module_check.specs.Nodes.{Sees, bound_of, bounds_of}
-use Rattle.module_check.proofs.Chained.{pushed, leads_start, leads_on, find_none, find_outside, find_here, grown_same, grown_twice, sees_put, append_known, append_new, append_more, bounds_all, bounds_left, endanger_known, endanger_new, sees_grown, unsafe_grown, sees_same, danger_none, danger_more, endanger_more, is_known_by, is_unknown_by}
+use Rattle.std.proofs.Common.{arith, subst, List, [], ◌∷◌, ◌++◌}
+use Rattle.erl_syntax.specs.Bindings.{names}
+use Rattle.module_check.specs.Nodes.{bounds_of}
+use Rattle.module_check.proofs.Chained.{grown_same, grown_twice, sees_grown, sees_same, danger_none, endanger_more}
 use Rattle.module_check.proofs.scopes.endanger.Goals as goal
 
 pub loop-target-init : goal.loop-target-init

@@ -1,10 +1,5 @@
-use Rattle.std.proofs.Common.{arith, subst, sym, ◌∙◌, refl, ◌≡◌, List, ap, length, ℕ, [], ◌∷◌, ◌++◌, take, drop, true, false}
-use Rattle.std.proofs.lemmas.Slice.Eq.{bytes_eq-Decides}
 use Rattle.std.proofs.lemmas.Result.{IfOk-weaker}
-use Rattle.erl_syntax.specs.Bindings.{Bound, names}
-use Rattle.erl_syntax.specs.Scopes.{Danger}
-use Rattle.module_check.specs.Nodes.{Sees, bound_of, bounds_of}
-use Rattle.module_check.proofs.Chained.{pushed, leads_start, leads_on, find_none, find_outside, find_here, grown_same, grown_twice, sees_put, append_known, append_new, append_more, bounds_all, bounds_left, endanger_known, endanger_new, sees_grown, unsafe_grown, sees_same, danger_none, danger_more, endanger_more, is_known_by, is_unknown_by}
+use Rattle.module_check.proofs.Chained.{endanger_known, endanger_new, is_known_by, is_unknown_by}
 use Rattle.module_check.proofs.scopes.endanger_one.Goals as goal
 
 pub returns-in-Some-clause-put : goal.returns-in-Some-clause-put

@@ -1,5 +1,5 @@
 use Rattle.module_check.proofs.Calling.{none_at_all}
-use Rattle.std.proofs.Common.{arith, sym, ◌∙◌, ◌≡◌, refl, ap, List, [], ◌∷◌, ◌++◌}
+use Rattle.std.proofs.Common.{arith, sym, refl, List}
 use Rattle.std.proofs.Common.{subst}
 use Rattle.module_check.specs.declared.scopes.Node.{Node}
 use Rattle.module_check.specs.Tasks.{Fits}

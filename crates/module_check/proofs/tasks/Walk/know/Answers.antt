@@ -1,16 +1,8 @@
-use Rattle.std.proofs.Common.{arith, subst, sym, ◌∙◌, refl, ◌≡◌, ◌<◌, ◌≤◌, ◌+◌, List, [], ◌∷◌, ◌++◌, ap, take, drop, length, reverse, get_or}
-use Rattle.std.proofs.lemmas.List.{append-nil}
-use Rattle.std.proofs.lemmas.Result.{IfOk-weaker}
-use Rattle.erl_syntax.specs.Bindings.{Bound, names, targets, targets_of, vars_of}
-use Rattle.erl_syntax.specs.Scopes.{Scope, AnExpr, APattern, ABody, behind, with_known, in_guard, to_match, past_patterns, past_items}
-use Rattle.module_check.specs.declared.tasks.Setting.{Setting}
-use Rattle.module_check.specs.declared.tasks.Walk.{Walk}
+use Rattle.std.proofs.Common.{◌∙◌, refl, List, ◌++◌, ap}
+use Rattle.erl_syntax.specs.Bindings.{targets}
 use Rattle.module_check.specs.declared.scopes.Target.{Target}
-use Rattle.module_check.specs.Nodes.{Sees, bounds_of}
-use Rattle.module_check.specs.Spots.{Spot, spot, each, expr_in, same_in, tests_in, pattern_in, matched_in, items_in}
-use Rattle.module_check.specs.Tasks.{Means, Fits, Adds}
-use Rattle.module_check.proofs.Chained.{grown_twice, sees_grown}
-use Rattle.module_check.proofs.Tasked.{adds_one, adds_nodes, adds_none, adds_twice, adds_then, adds_same, means_grown, means_behind, means_known, means_guard, means_match, means_same, means_front, means_item, sees_at, far_start, far_on, far_end, back_start, back_on, back_end, back_targets, passed_more, passed_all, behind_more, past_more, items_more, with_none}
+use Rattle.module_check.specs.Nodes.{bounds_of}
+use Rattle.module_check.proofs.Tasked.{adds_nodes, means_known}
 use Rattle.module_check.proofs.tasks.Walk.know.Goals as goal
 
 pub returns-clause-adds : goal.returns-clause-adds

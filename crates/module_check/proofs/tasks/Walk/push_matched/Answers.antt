@@ -1,16 +1,8 @@
-use Rattle.std.proofs.Common.{◌-◌, arith, subst, sym, ◌∙◌, refl, ◌≡◌, ◌<◌, ◌≤◌, ◌+◌, List, [], ◌∷◌, ◌++◌, ap, take, drop, length, reverse, get_or}
-use Rattle.std.proofs.lemmas.List.{append-nil}
-use Rattle.std.proofs.lemmas.Result.{IfOk-weaker}
-use Rattle.erl_syntax.specs.Bindings.{Bound, names, targets, targets_of, vars_of}
-use Rattle.erl_syntax.specs.Scopes.{Scope, AnExpr, APattern, ABody, behind, with_known, in_guard, to_match, past_patterns, past_items}
-use Rattle.module_check.specs.declared.tasks.Setting.{Setting}
-use Rattle.module_check.specs.declared.tasks.Walk.{Walk}
-use Rattle.module_check.specs.declared.scopes.Target.{Target}
-use Rattle.module_check.specs.Nodes.{Sees, bounds_of}
-use Rattle.module_check.specs.Spots.{Spot, spot, each, expr_in, same_in, tests_in, pattern_in, matched_in, items_in}
-use Rattle.module_check.specs.Tasks.{Means, Fits, Adds}
-use Rattle.module_check.proofs.Chained.{grown_twice, sees_grown}
-use Rattle.module_check.proofs.Tasked.{adds_one, adds_nodes, adds_none, adds_twice, adds_then, adds_same, means_grown, means_behind, means_known, means_guard, means_match, means_same, means_front, means_item, sees_at, far_start, far_on, far_end, back_start, back_on, back_end, back_targets, back_none, back_done, passed_more, passed_all, behind_more, past_more, items_more, with_none}
+use Rattle.std.proofs.Common.{◌-◌, arith, refl, ◌≡◌, ◌<◌, ◌+◌, [], ◌∷◌, drop, length, reverse}
+use Rattle.erl_syntax.specs.Bindings.{targets_of}
+use Rattle.erl_syntax.specs.Scopes.{APattern, with_known, to_match}
+use Rattle.module_check.specs.Spots.{spot, matched_in}
+use Rattle.module_check.proofs.Tasked.{adds_then, means_grown, means_match, means_same, back_start, back_on, back_end, back_targets, back_none, back_done}
 use Rattle.module_check.proofs.tasks.Walk.push_matched.Goals as goal
 
 pub loop-left-init : goal.loop-left-init
@@ -18,8 +10,8 @@ loop-left-init c = record { within = omega arith; far = λ s m. (back_start (mat
 
 pub loop-left-preserved : goal.loop-left-preserved
 loop-left-preserved c = record {
-    within = omega (arith, c.loop-left.invariant.within);
-    far = λ s m.
+  within = omega (arith, c.loop-left.invariant.within);
+  far = λ s m.
       let h = c.loop-left.invariant.far s m in
       let xs = c.args.patterns.now in
       let j = c.loop-left.left in
@@ -30,10 +22,11 @@ loop-left-preserved c = record {
       let pushed = c.in_ok-push.ensures d (record { part = refl; means = means_match _ _ t h.1; sizes = h.1.known }) in
       let moved = c.in_ok-after.ensures in
       let k : j ≡ i + 1 = omega arith in
-      let l : i < length xs = omega (arith, c.loop-left.invariant.within) in
-      (back_on (matched_in s) xs c.args.self.now c.loop-left.self c.know.new.self i j one k l c.index-patterns-left.is h.0 (adds_then c.loop-left.self c.push.new.self c.know.new.self (d ∷ []) pushed moved.adds),
-        means_same _ _ _ _ (back_targets xs i j one s k l c.index-patterns-left.is) (moved.means t (means_grown _ _ _ _ pushed.grown h.1)));
-  }
+      let l : i < length xs = omega (arith, c.loop-left.invariant.within) in (
+        back_on (matched_in s) xs c.args.self.now c.loop-left.self c.know.new.self i j one k l c.index-patterns-left.is h.0 (adds_then c.loop-left.self c.push.new.self c.know.new.self (d ∷ []) pushed moved.adds),
+        means_same _ _ _ _ (back_targets xs i j one s k l c.index-patterns-left.is) (moved.means t (means_grown _ _ _ _ pushed.grown h.1)),
+      );
+}
 
 pub returns : goal.returns
 returns c = λ s m. let h = c.loop-left.invariant.far s m in (back_end (matched_in s) c.args.patterns.now c.args.self.now c.loop-left.self c.loop-left.left (omega arith) h.0, back_done _ _ c.args.patterns.now c.loop-left.left s (omega arith) h.1)

@@ -1,25 +1,11 @@
-use Rattle.std.proofs.Common.{arith, subst, sym, ◌∙◌, refl, ◌≡◌, ◌<◌, ◌≤◌, ◌+◌, List, [], ◌∷◌, ◌++◌, ap, take, drop, length, reverse, get_or, Option}
-use Rattle.std.specs.List.{flat_map}
-use Rattle.std.proofs.lemmas.List.{append-nil, append_assoc, get_or_default}
+use Rattle.std.proofs.Common.{sym, ◌∙◌, refl, [], ◌++◌, ap}
 use Rattle.std.proofs.lemmas.Result.{IfOk-weaker}
-use Rattle.erl_syntax.specs.Bindings.{Bound, names, targets, targets_of, vars_of, vars_of_segment, new_names, qual_unsafe, segment_targets}
-use Rattle.erl_syntax.specs.Scopes.{Scope, AnExpr, APattern, ABody, ASegment, behind, with_known, in_guard, to_match, to_generate, past_patterns, past_items, past_segments, past_quals, past_row, generated, sizes_of, nothing_known, is_empty}
-use Rattle.erl_syntax.specs.declared.expr.Expr.{Expr}
-use Rattle.erl_syntax.specs.declared.segment.Segment.{Segment}
-use Rattle.erl_syntax.specs.declared.clause.Alt.{out-Alt}
-use Rattle.erl_syntax.specs.declared.clause.Branch.{out-Branch}
 use Rattle.erl_syntax.specs.declared.typing.SideUse.TheVariants as side
-use Rattle.module_check.specs.declared.tasks.Setting.{Setting}
-use Rattle.module_check.specs.declared.tasks.Walk.{Walk}
-use Rattle.module_check.specs.declared.scopes.Target.{Target}
-use Rattle.module_check.specs.Nodes.{Sees, bound_of, bounds_of}
-use Rattle.module_check.specs.Spots.{Spot, spot, each, expr_in, same_in, tests_in, guard_in, pattern_in, patterns_in, matched_in, items_in, built_in_turn, segment_in, alt_layer_in, alt_in, branch_layer_in, branch_in, qual_in, quals_in, comprehension_in, inside_expr, inside_pattern, inside_segment, inside, clause_in, clauses_in}
-use Rattle.module_check.specs.Tasks.{Means, Fits, Adds, Passes, passed, with_new, size_in}
-use Rattle.module_check.proofs.Chained.{grown_twice, sees_grown, bounds_more}
-use Rattle.module_check.proofs.Left.{own_value}
-use Rattle.module_check.proofs.Standing.{in_tuple, in_list, in_bits, in_list_for, in_bits_for, in_call, in_case, in_receive, in_if, in_unary, in_binary, in_pattern_tuple, in_pattern_list, in_pattern_bits, in_same, in_items, in_bit_items, in_filter}
-use Rattle.module_check.proofs.Tasked.{adds_one, adds_nodes, adds_none, adds_twice, adds_then, adds_same, means_grown, means_behind, means_known, means_guard, means_match, means_same, means_front, means_item, sees_at, far_start, far_on, far_end, back_start, back_on, back_end, back_targets, passed_more, passed_all, behind_more, past_more, items_more, with_none}
-use Rattle.module_check.proofs.Passing.{behind_joined, behind_none, sizes_of_some, sizes_of_none, built_more, sizes_any, pass_on, pass_known, passes_grown, passes_front, passes_none, segments_more, means_new, means_past_qual, quals_more, generated_more, means_generate, means_size, means_nothing, sees_nothing, each_joined, size_at}
+use Rattle.module_check.specs.Spots.{each, pattern_in, patterns_in, segment_in}
+use Rattle.module_check.proofs.Chained.{sees_grown}
+use Rattle.module_check.proofs.Standing.{in_pattern_tuple, in_pattern_list, in_pattern_bits, in_same}
+use Rattle.module_check.proofs.Tasked.{adds_twice, adds_same, means_same, sees_at, with_none}
+use Rattle.module_check.proofs.Passing.{each_joined}
 use Rattle.module_check.proofs.tasks.Walk.push_pattern.Goals as goal
 
 pub returns-in-Tuple : goal.returns-in-Tuple
@@ -31,7 +17,7 @@ returns-in_ok-behind-in-List c = IfOk-weaker c.push_nested-in-List.result _ _ (�
     let b = c.items-in-List-2.ensures in
     let one = c.in_ok-behind-in-List.ensures s [] (means_same _ _ _ _ (sym (with_none s)) m) o in
     adds_same _ _ _ _ (each_joined (pattern_in s) [] c.items-in-List.result.now c.items-in-List-2.result.now (λ f y b z. refl) ∙ ap (λ zs. patterns_in s (zs ++ c.items-in-List-2.result.now)) a ∙ ap (λ zs. patterns_in s (c.in-List.items ++ zs)) b ∙ sym (in_pattern_list s c.args.pattern.now c.in-List.at c.in-List.items c.in-List.tail c.in-List.is))
-      (adds_twice c.args.self.now c.push_patterns.new.self c.push_nested-in-List.new.self _ _ one.0 (h s c.items-in-List.result.now one.1.0 (sees_at _ _ _ _ one.1.1 (sees_grown _ _ one.0.grown _ _ o))))) c.push_nested-in-List.ensures
+    (adds_twice c.args.self.now c.push_patterns.new.self c.push_nested-in-List.new.self _ _ one.0 (h s c.items-in-List.result.now one.1.0 (sees_at _ _ _ _ one.1.1 (sees_grown _ _ one.0.grown _ _ o))))) c.push_nested-in-List.ensures
 
 pub returns-in-Bits : goal.returns-in-Bits
 returns-in-Bits c = IfOk-weaker c.push_segments.result _ _ (λ u h s m o. adds_same _ _ _ _ (ap (λ zs. each (segment_in side.Match s) [] zs) c.items-in-Bits.ensures ∙ sym (in_pattern_bits s c.args.pattern.now c.in-Bits.at c.in-Bits.segments c.in-Bits.is)) (h s m o)) c.push_segments.ensures

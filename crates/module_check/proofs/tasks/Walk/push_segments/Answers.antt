@@ -1,25 +1,8 @@
-use Rattle.std.proofs.Common.{arith, subst, sym, ◌∙◌, refl, ◌≡◌, ◌<◌, ◌≤◌, ◌+◌, List, [], ◌∷◌, ◌++◌, ap, take, drop, length, reverse, get_or, Option}
-use Rattle.std.specs.List.{flat_map}
-use Rattle.std.proofs.lemmas.List.{append-nil, append_assoc, get_or_default}
-use Rattle.std.proofs.lemmas.Result.{IfOk-weaker}
-use Rattle.erl_syntax.specs.Bindings.{Bound, names, targets, targets_of, vars_of, vars_of_segment, new_names, qual_unsafe, segment_targets}
-use Rattle.erl_syntax.specs.Scopes.{Scope, AnExpr, APattern, ABody, ASegment, behind, with_known, in_guard, to_match, to_generate, past_patterns, past_items, past_segments, past_quals, past_row, generated, sizes_of, nothing_known, is_empty}
-use Rattle.erl_syntax.specs.declared.expr.Expr.{Expr}
-use Rattle.erl_syntax.specs.declared.segment.Segment.{Segment}
-use Rattle.erl_syntax.specs.declared.clause.Alt.{out-Alt}
-use Rattle.erl_syntax.specs.declared.clause.Branch.{out-Branch}
-use Rattle.erl_syntax.specs.declared.typing.SideUse.TheVariants as side
-use Rattle.module_check.specs.declared.tasks.Setting.{Setting}
-use Rattle.module_check.specs.declared.tasks.Walk.{Walk}
-use Rattle.module_check.specs.declared.scopes.Target.{Target}
-use Rattle.module_check.specs.Nodes.{Sees, bound_of, bounds_of}
-use Rattle.module_check.specs.Spots.{Spot, spot, each, expr_in, same_in, tests_in, guard_in, pattern_in, patterns_in, matched_in, items_in, built_in_turn, segment_in, alt_layer_in, alt_in, branch_layer_in, branch_in, qual_in, quals_in, comprehension_in, inside_expr, inside_pattern, inside_segment, inside, clause_in, clauses_in}
-use Rattle.module_check.specs.Tasks.{Means, Fits, Adds, Passes, passed, with_new, size_in}
-use Rattle.module_check.proofs.Chained.{grown_twice, sees_grown, bounds_more}
-use Rattle.module_check.proofs.Left.{own_value}
-use Rattle.module_check.proofs.Standing.{in_tuple, in_list, in_bits, in_list_for, in_bits_for, in_call, in_case, in_receive, in_if, in_unary, in_binary, in_pattern_tuple, in_pattern_list, in_pattern_bits, in_same, in_items, in_bit_items, in_filter}
-use Rattle.module_check.proofs.Tasked.{adds_one, adds_nodes, adds_none, adds_twice, adds_then, adds_same, means_grown, means_behind, means_known, means_guard, means_match, means_same, means_front, means_item, sees_at, far_start, far_on, far_end, back_start, back_on, back_end, back_targets, passed_more, passed_all, behind_more, past_more, items_more, with_none}
-use Rattle.module_check.proofs.Passing.{behind_joined, behind_none, sizes_of_some, sizes_of_none, built_more, sizes_any, pass_on, pass_known, passes_grown, passes_front, passes_none, segments_more, means_new, means_past_qual, quals_more, generated_more, means_generate, means_size, means_nothing, sees_nothing, each_joined, size_at}
+use Rattle.std.proofs.Common.{arith, ◌<◌, ◌+◌, [], ◌∷◌, ◌++◌, ap, take, drop, length}
+use Rattle.erl_syntax.specs.Scopes.{ASegment, past_segments, is_empty}
+use Rattle.module_check.specs.Spots.{spot, segment_in}
+use Rattle.module_check.proofs.Tasked.{adds_then, far_start, far_on, far_end, passed_more}
+use Rattle.module_check.proofs.Passing.{sizes_any, passes_grown, passes_front, passes_none}
 use Rattle.module_check.proofs.tasks.Walk.push_segments.Goals as goal
 
 pub loop-index-init : goal.loop-index-init
@@ -35,9 +18,10 @@ loop-index-preserved c = λ s m o.
     let t = past_segments (take i xs) s in
     let d = spot t (ASegment c.args.side (is_empty (drop (i + 1) xs)) one) in
     let pushed = c.in_ok-push.ensures d (record { part = ap (λ z. ASegment c.args.side z one) c.is_last-last.ensures; means = h.1.means; sizes = sizes_any _ _ t c.args.side (is_empty (drop (i + 1) xs)) one h.1.sizes }) in
-    let moved = c.in_ok-after.ensures in
-    (far_on (segment_in c.args.side s) [] xs c.args.self.now c.loop-index.self c.pass_segment.new.self i one l c.index-segments-index.is h.0 (adds_then c.loop-index.self c.push.new.self c.pass_segment.new.self (d ∷ []) pushed moved.adds),
-      passes_front _ _ (λ fs. past_segments fs s) (take i xs ++ one ∷ []) (take (i + 1) xs) (passed_more [] xs i one l c.index-segments-index.is) (moved.means s (take i xs) (passes_grown _ _ _ _ pushed.grown h.1)))
+    let moved = c.in_ok-after.ensures in (
+      far_on (segment_in c.args.side s) [] xs c.args.self.now c.loop-index.self c.pass_segment.new.self i one l c.index-segments-index.is h.0 (adds_then c.loop-index.self c.push.new.self c.pass_segment.new.self (d ∷ []) pushed moved.adds),
+      passes_front _ _ (λ fs. past_segments fs s) (take i xs ++ one ∷ []) (take (i + 1) xs) (passed_more [] xs i one l c.index-segments-index.is) (moved.means s (take i xs) (passes_grown _ _ _ _ pushed.grown h.1)),
+    )
 
 pub returns : goal.returns
 returns c = λ s m o. far_end (segment_in c.args.side s) [] c.args.segments.now c.args.self.now c.loop-index.self c.loop-index.index (omega arith) (c.loop-index.invariant s m o).0
