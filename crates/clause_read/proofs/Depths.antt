@@ -65,7 +65,7 @@ operator_too_deep n c y j rest op h a m b = record {
   tree = (y.tree, y.height);
   more = [];
   goes_on = λ l v gs w d. expands _ (alone n c _ _ _ _ _ refl refl) d;
-  stops = λ l i r gs w f s d. stops_operator n c y j rest op h a b l i.0 r.0 r.1 gs w f s d;
+  stops = λ l i r gs w f s d. stops_operator n c y j rest op h a b l i.trees r.0 r.1 gs w f s d;
   excused = operator_goes_on n c y j rest op h a m (cases_lt n 4);
 }
 
@@ -112,7 +112,7 @@ exprs_too_deep close c j rest n b h = let g : Begun c j = begun c j j.kind refl 
   tree = ([], 0);
   more = mark_word close ∷ [];
   goes_on = λ l v gs w d. expands _ (no_exprs close c 0 refl) (takes (mark_word close) refl d);
-  stops = λ l i r gs w f s d. stops_exprs l close c r.0 r.1 gs j rest w n h i.0 s d;
+  stops = λ l i r gs w f s d. stops_exprs l close c r.0 r.1 gs j rest w n h i.trees s d;
   excused = record {
     limits = deeper (c.deep + 1) (c.open_ + 1);
     wide = deeper_wide (c.deep + 1) (c.open_ + 1);

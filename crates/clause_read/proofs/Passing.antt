@@ -6,7 +6,7 @@ use Rattle.erl_syntax.specs.Grammar.{Goal, Limits, Spells}
 use Rattle.clause_read.specs.declared.fault.Fault.{Fault}
 use Rattle.clause_read.specs.declared.fault.Fault.TheVariants.{Memory, Refused}
 use Rattle.clause_read.specs.declared.fault.Cause.{Cause}
-use Rattle.clause_read.specs.declared.fault.Cause.TheVariants.{Syntax, TooDeep, UnknownAttribute, UnknownSegmentType}
+use Rattle.clause_read.specs.declared.fault.Cause.TheVariants.{Syntax, TooDeep, UnknownAttribute, UnknownSegmentType, Undecided}
 use Rattle.clause_read.specs.Reading.{Passes, IsRefused, GoesOn, Excused, IsWide, Follows, SameHead, closed, nothing, Gives}
 
 pub same_front : (f w z : List Word) → SameHead w z → SameHead (f ++ w) (f ++ z)
@@ -74,6 +74,7 @@ excused_after z front Syntax s e = tt
 excused_after z front TooDeep s e = goes_on_after s e
 excused_after z front UnknownAttribute s e = goes_on_after s e
 excused_after z front UnknownSegmentType s e = goes_on_after s e
+excused_after z front Undecided s e = tt
 
 pub refused_after : {X Y : Type 0} {outer inner : TokenKind → Bool} {a : X → List Goal} {b : Y → List Goal} {x y z : List Word} {f : Y → X} {why : Cause} →
     Within inner outer → Passes outer a x b y f → IsRefused inner b y z why → IsRefused outer a x z why
@@ -126,6 +127,7 @@ excused_first a z front Syntax f e = tt
 excused_first a z front TooDeep f e = goes_on_first f e
 excused_first a z front UnknownAttribute f e = goes_on_first f e
 excused_first a z front UnknownSegmentType f e = goes_on_first f e
+excused_first a z front Undecided f e = tt
 
 -- the first of two wanted things is refused, and the second has some spelling
 pub refused_first : {X Y : Type 0} {inner outer : TokenKind → Bool} {a : X → List Goal} {b : X → Y → List Goal} {x y : List Word} {v : List Word} {why : Cause} →

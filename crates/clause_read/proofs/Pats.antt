@@ -1,5 +1,5 @@
 -- The laws of patterns: what each token does where a pattern is wanted.
-use Rattle.std.proofs.Common.{◌≡◌, ◌≢◌, ℕ, ℤ, ◌+◌, ◌≤◌, ◌<◌, max, Bool, true, false, IsTrue, List, [], ◌∷◌, ◌++◌, drop, Option, Some, None, refl, sym, ap, subst, ◌∙◌, arith, pos}
+use Rattle.std.proofs.Common.{◌≡◌, ℕ, ℤ, ◌+◌, ◌<◌, List, [], ◌∷◌, refl, sym, ap, ◌∙◌, arith, pos}
 use Rattle.erl_syntax.specs.declared.span.Span.{Span}
 use Rattle.erl_syntax.specs.declared.token.TokenKind.{TokenKind}
 use Rattle.erl_syntax.specs.declared.token.TokenKind.TheVariants as k
@@ -8,19 +8,12 @@ use Rattle.erl_syntax.specs.declared.pattern.Pattern.TheVariants as p
 use Rattle.erl_syntax.specs.declared.segment.Segment.{Segment}
 use Rattle.erl_syntax.specs.Word.{Word}
 use Rattle.erl_syntax.specs.Names.{Signed, plus, minus}
-use Rattle.erl_syntax.specs.Grammar.{Context, under, inside, Limits, Goal, Mark, At, The, Of, APattern, Pat, Patterns, PatternList, PatternBits, pat_variable, pat_wild, pat_integer, pat_signed, pat_character, pat_atom, pat_string, pat_paren, pat_tuple, pat_list, pat_bits, Spells, takes, begins, this, expands}
+use Rattle.erl_syntax.specs.Grammar.{Context, under, inside, Limits, Goal, Of, Pat, Patterns, PatternList, PatternBits, pat_variable, pat_wild, pat_integer, pat_signed, pat_character, pat_atom, pat_string, pat_paren, pat_tuple, pat_list, pat_bits, Spells, begins, this, expands}
 use Rattle.clause_read.specs.declared.placed.Placed.{Placed}
-use Rattle.clause_read.specs.declared.fault.Cause.TheVariants.{Syntax, TooDeep}
-use Rattle.clause_read.specs.Reading.{Passes, IsRefused, IsWide, Follows, SameHead, closed, nothing}
-use Rattle.clause_read.proofs.Passing.{Within, Behind, Spelled}
+use Rattle.clause_read.specs.Reading.{Passes, closed, nothing}
+use Rattle.clause_read.specs.WantedPatterns.{pat_in, patterns_in, pattern_bits_in, pattern_list_in}
 
-abbrev pub pat_in : Context → Placed Pattern → List Goal
-pat_in c r = Of (Pat c r.at r.tree r.height) ∷ []
-
-abbrev pub pattern_in : Context → Placed Pattern → List Goal
-pattern_in c r = Of (APattern c r.at r.tree r.height) ∷ []
-
-same_pat : {a b : Span} {e f : Pattern} {d g : ℕ} → a ≡ b → e ≡ f → d ≡ g → (let P : Placed Pattern = record { at = a; tree = e; height = d } in P) ≡ (let P : Placed Pattern = record { at = b; tree = f; height = g } in P)
+pub same_pat : {a b : Span} {e f : Pattern} {d g : ℕ} → a ≡ b → e ≡ f → d ≡ g → (let P : Placed Pattern = record { at = a; tree = e; height = d } in P) ≡ (let P : Placed Pattern = record { at = b; tree = f; height = g } in P)
 same_pat {a = a} {b = b} {e = e} {f = f} {d = d} {g = g} p q r = ap (λ v. record { at = v; tree = e; height = d }) p ∙ ap (λ v. record { at = b; tree = v; height = d }) q ∙ ap (λ v. record { at = b; tree = f; height = v }) r
 
 -- no sign
@@ -167,9 +160,6 @@ tuple_forth l c at e d gs j w h (expands _ (pat_tuple c_0 at_0 e_0 d_0 ys_0 dys_
 tuple_forth l c at e d gs j w h (expands _ (pat_list c_0 at_0 e_0 d_0 ys_0 tail_0 dys_0 q0_0 q0_1 q0_2) (begins t kk ka z)) = cc
 tuple_forth l c at e d gs j w h (expands _ (pat_bits c_0 at_0 e_0 d_0 sgs_0 q0_0 q0_1) (begins t kk ka z)) = cc
 
-abbrev pub patterns_in : TokenKind → Context → List Pattern × ℕ → List Goal
-patterns_in close c r = Of (Patterns close c r.0 r.1) ∷ []
-
 pub on_brace : (c : Context) (j : Word) (rest : List Word) → j.kind ≡ k.LeftBrace → c.open_ < 64 → Passes {X = Placed Pattern} {Y = List Pattern × ℕ} closed (pat_in c) (j ∷ rest) (patterns_in k.RightBrace (inside (under c))) rest (λ r. record { at = j.at; tree = p.Tuple j.at r.0; height = r.1 + 1 })
 on_brace c j rest h b = record {
   front = j ∷ [];
@@ -191,9 +181,6 @@ bits_forth l c at e d gs j w h (expands _ (pat_tuple c_0 at_0 e_0 d_0 ys_0 dys_0
 bits_forth l c at e d gs j w h (expands _ (pat_list c_0 at_0 e_0 d_0 ys_0 tail_0 dys_0 q0_0 q0_1 q0_2) (begins t kk ka z)) = cc
 bits_forth l c at e d gs j w h (expands _ (pat_bits c_0 at_0 e_0 d_0 sgs_0 q0_0 q0_1) (begins t kk ka z)) = (ka, sgs_0, q0_1 ∙ ap (λ v. p.Bits v sgs_0) ka, z)
 
-abbrev pub pattern_bits_in : Context → List Segment × ℕ → List Goal
-pattern_bits_in c r = Of (PatternBits c r.0 r.1) ∷ []
-
 pub on_bits : (c : Context) (j : Word) (rest : List Word) → j.kind ≡ k.LeftBits → c.open_ < 64 → Passes {X = Placed Pattern} {Y = List Segment × ℕ} closed (pat_in c) (j ∷ rest) (pattern_bits_in c) rest (λ r. record { at = j.at; tree = p.Bits j.at r.0; height = r.1 })
 on_bits c j rest h b = record {
   front = j ∷ [];
@@ -214,9 +201,6 @@ list_forth l c at e d gs j w h (expands _ (pat_paren c_0 at_0 e_0 d_0 ay_0 q0_0)
 list_forth l c at e d gs j w h (expands _ (pat_tuple c_0 at_0 e_0 d_0 ys_0 dys_0 q0_0 q0_1 q0_2) (begins t kk ka z)) = cc
 list_forth l c at e d gs j w h (expands _ (pat_list c_0 at_0 e_0 d_0 ys_0 tail_0 dys_0 q0_0 q0_1 q0_2) (begins t kk ka z)) = (ka, ys_0, tail_0, dys_0, q0_1 ∙ ap (λ v. p.List v ys_0 tail_0) ka, q0_2, z)
 list_forth l c at e d gs j w h (expands _ (pat_bits c_0 at_0 e_0 d_0 sgs_0 q0_0 q0_1) (begins t kk ka z)) = cc
-
-abbrev pub pattern_list_in : Context → (List Pattern × List Pattern) × ℕ → List Goal
-pattern_list_in c r = Of (PatternList c r.0.0 r.0.1 r.1) ∷ []
 
 pub on_bracket : (c : Context) (j : Word) (rest : List Word) → j.kind ≡ k.LeftBracket → c.open_ < 64 → Passes {X = Placed Pattern} {Y = (List Pattern × List Pattern) × ℕ} closed (pat_in c) (j ∷ rest) (pattern_list_in (inside (under c))) rest (λ r. record { at = j.at; tree = p.List j.at r.0.0 r.0.1; height = r.1 + 1 })
 on_bracket c j rest h b = record {

@@ -1,5 +1,6 @@
 -- The words from a place on.
-use Rattle.std.proofs.Common.{◌≡◌, ℕ, suc, ◌+◌, ◌<◌, ◌≤◌, List, [], ◌∷◌, drop, length, get_or, map, ap, sym, refl, ◌∙◌, arith, subst}
+use Rattle.std.proofs.Common.{◌≡◌, ℕ, suc, ◌+◌, ◌<◌, ◌≤◌, List, [], ◌∷◌, drop, length, get_or, map, ap, sym, refl, ◌∙◌, arith, subst, Result, Ok, Err, IfOk}
+use Rattle.std.specs.declared.alloc.AllocError.{AllocError}
 use Rattle.std.proofs.Math.Seq.{drop-cons}
 use Rattle.std.proofs.Math.ListN.{drop_of_length-le}
 use Rattle.std.proofs.lemmas.List.{drop-map, length-map}
@@ -9,7 +10,8 @@ use Rattle.erl_syntax.specs.declared.token.TokenKind.TheVariants as k
 use Rattle.clause_read.specs.Source.{words, word_of, number_of, characters_of, StandsAt}
 use Rattle.erl_syntax.specs.Names.{module_macro}
 use Rattle.erl_syntax.specs.Tokens.{token_text}
-use Rattle.clause_read.specs.Wanted.{IsAt, AtomAt, NoMark, no_mark, no_mark_end, NoModule, no_word, no_module}
+use Rattle.erl_syntax.specs.Characters.{string_characters, atom_text}
+use Rattle.clause_read.specs.Wanted.{IsAt, AtomAt, ModuleAt, NoMark, no_mark, no_mark_end, NoModule, no_word, no_module}
 use Rattle.clause_read.specs.declared.source.Numbered.{Numbered}
 
 words_from : (text : List ℕ) (ns : List Numbered) (i : ℕ) (n : Numbered) → i < length ns → get_or ns i n ≡ n → drop i (words text ns) ≡ word_of text n ∷ drop (i + 1) (words text ns)
@@ -51,10 +53,30 @@ no_variable _ (no_mark j rest f) = no_module j rest (λ h e. f h)
 pub other_name : (all : List Word) (at : ℕ) → (s : IsAt all at k.Variable) → (s.word.chars ≡ module_macro → ⊥) → NoModule (drop at all)
 other_name all at s f = let P : List Word → Type 0 = λ w. NoModule w in subst P (sym s.is) (no_module s.word (drop (at + 1) all) (λ h e. f e))
 
--- the bytes of a name
-pub bytes_are : (text : List ℕ) (ns : List Numbered) (all : List Word) (i : ℕ) (n : Numbered) → words text ns ≡ all → i < length ns → n ≡ get_or ns i n → (w : Word) (rest : List Word) → drop i all ≡ w ∷ rest → w.kind ≡ k.Variable → token_text text n.token ≡ w.chars
-bytes_are text ns all i n v h e w rest a b =
+-- what a token's bytes say of its word
+pub bytes_are : (text : List ℕ) (ns : List Numbered) (all : List Word) (i : ℕ) (n : Numbered) → words text ns ≡ all → i < length ns → n ≡ get_or ns i n → (w : Word) (rest : List Word) → drop i all ≡ w ∷ rest → w.chars ≡ characters_of w.kind (token_text text n.token)
+bytes_are text ns all i n v h e w rest a =
     let s : drop i (words text ns) ≡ word_of text n ∷ drop (i + 1) (words text ns) = words_from text ns i n h (sym e) in
     let f : word_of text n ≡ w = let t : word_of text n ∷ drop (i + 1) (words text ns) ≡ w ∷ rest = sym s ∙ ap (drop i) v ∙ a in cc in
-    let m : n.token.kind ≡ k.Variable = ap (λ u. u.kind) f ∙ b in
-    sym (ap (λ u. characters_of u (token_text text n.token)) m) ∙ ap (λ u. u.chars) f
+    sym (ap (λ u. u.chars) f) ∙ ap (λ u. characters_of u.kind (token_text text n.token)) f
+
+-- the bytes of a name are its characters
+pub name_is : (w : Word) (bytes : List ℕ) → w.chars ≡ characters_of w.kind bytes → w.kind ≡ k.Variable → bytes ≡ w.chars
+name_is w bytes h m = sym (ap (λ u. characters_of u bytes) m) ∙ sym h
+
+pub atom_is : (w : Word) (bytes chars : List ℕ) → w.chars ≡ characters_of w.kind bytes → w.kind ≡ k.Atom → chars ≡ atom_text bytes → chars ≡ w.chars
+atom_is w bytes chars h m e = e ∙ sym (ap (λ u. characters_of u bytes) m) ∙ sym h
+
+pub string_is : (w : Word) (bytes chars : List ℕ) → w.chars ≡ characters_of w.kind bytes → w.kind ≡ k.Str → chars ≡ string_characters bytes → chars ≡ w.chars
+string_is w bytes chars h m e = e ∙ sym (ap (λ u. characters_of u bytes) m) ∙ sym h
+
+pub atom_read : (all : List Word) (at : ℕ) (bytes : List ℕ) (r : Result (List ℕ) AllocError) → ((w : Word) (rest : List Word) → drop at all ≡ w ∷ rest → w.chars ≡ characters_of w.kind bytes) → IfOk r (λ chars. chars ≡ atom_text bytes) → IfOk r (λ chars. (w : Word) (rest : List Word) → drop at all ≡ w ∷ rest → w.kind ≡ k.Atom → chars ≡ w.chars)
+atom_read all at bytes (Ok chars) f e = λ w rest a m. atom_is w bytes chars (f w rest a) m e
+atom_read all at bytes (Err e) f g = tt
+
+pub module_yes : (all : List Word) (at : ℕ) → (s : IsAt all at k.Variable) → s.word.chars ≡ module_macro → ModuleAt all at
+module_yes all at s e = record { word = s.word; is = s.is; kind = s.kind_is; chars = e }
+
+-- the bytes of the variable that stands there
+pub name_at : (all : List Word) (at : ℕ) (bytes : List ℕ) → ((w : Word) (rest : List Word) → drop at all ≡ w ∷ rest → w.chars ≡ characters_of w.kind bytes) → (s : IsAt all at k.Variable) → bytes ≡ s.word.chars
+name_at all at bytes f s = name_is s.word bytes (f s.word (drop (at + 1) all) s.is) s.kind_is

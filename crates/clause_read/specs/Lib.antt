@@ -1,3 +1,5 @@
+pub mod Numbering
 pub mod Reading
 pub mod Source
 pub mod Wanted
+pub mod WantedPatterns

@@ -7,7 +7,7 @@ use Rattle.erl_syntax.specs.Grammar.{Goal, Limits, Spells}
 use Rattle.clause_read.specs.declared.fault.Fault.{Fault}
 use Rattle.clause_read.specs.declared.fault.Fault.TheVariants.{Memory, Refused}
 use Rattle.clause_read.specs.declared.fault.Cause.{Cause}
-use Rattle.clause_read.specs.declared.fault.Cause.TheVariants.{Syntax, TooDeep, UnknownAttribute, UnknownSegmentType}
+use Rattle.clause_read.specs.declared.fault.Cause.TheVariants.{Syntax, TooDeep, UnknownAttribute, UnknownSegmentType, Undecided}
 
 -- both have ended, or both begin with the same token
 abbrev pub SameHead : List Word → List Word → Type 0
@@ -36,12 +36,20 @@ pub record Passes {X Y : Type 0} (longer : TokenKind → Bool) (wanted : X → L
   pub back : (l : Limits) → IsWide l → (y : Y) (gs : List Goal) (w : List Word) → Spells l (left y ++ gs) w → Spells l (wanted (make y) ++ gs) (front ++ w)
   pub forth : (l : Limits) (x : X) (gs : List Goal) (w : List Word) → Follows l longer gs → SameHead w rest → Spells l (wanted x ++ gs) (front ++ w) → (y : Y) × (x ≡ make y) × Spells l (left y ++ gs) w
 
+-- the limits of modules
+pub record IsStrict (l : Limits) : Type 0 where
+  pub trees : l.trees ≡ 256
+  pub brackets : l.brackets ≡ 64
+  pub any_attribute : l.any_attribute ≡ false
+  pub any_type : l.any_type ≡ false
+
 -- the limits at which a token with this cause can't stand: any for a fault of syntax
 abbrev pub Stops : Cause → Limits → Type 0
 Stops Syntax l = Unit {0}
-Stops TooDeep l = (l.trees ≡ 256) × (l.brackets ≡ 64)
+Stops TooDeep l = IsStrict l
 Stops UnknownAttribute l = l.any_attribute ≡ false
 Stops UnknownSegmentType l = l.any_type ≡ false
+Stops Undecided l = IsStrict l
 
 -- other limits at which it can
 abbrev pub Allows : Cause → Limits → Type 0
@@ -49,6 +57,7 @@ Allows Syntax l = ⊥
 Allows TooDeep l = (l.any_attribute ≡ false) × (l.any_type ≡ false)
 Allows UnknownAttribute l = l.any_attribute ≡ true
 Allows UnknownSegmentType l = l.any_type ≡ true
+Allows Undecided l = ⊥
 
 -- The tokens up to `rest` and its first one begin a spelling within other limits.
 pub record GoesOn {X : Type 0} (wanted : X → List Goal) (front rest : List Word) (why : Cause) : Type 0 where
@@ -67,6 +76,7 @@ Excused wanted front rest Syntax = Unit {0}
 Excused wanted front rest TooDeep = GoesOn wanted front rest TooDeep
 Excused wanted front rest UnknownAttribute = GoesOn wanted front rest UnknownAttribute
 Excused wanted front rest UnknownSegmentType = GoesOn wanted front rest UnknownSegmentType
+Excused wanted front rest Undecided = Unit {0}
 
 -- Up to `rest` the tokens begin a spelling of a wanted tree, and with the first of `rest`, or the end, they don't.
 pub record IsRefused {X : Type 0} (longer : TokenKind → Bool) (wanted : X → List Goal) (from rest : List Word) (why : Cause) : Type 0 where

@@ -1,8 +1,8 @@
 -- The words of a text: its tokens with what they stand for.
-use Rattle.std.specs.Prelude.{◌≡◌, ℕ, ◌+◌, ◌<◌, ◌≤◌, ◌^◌, length, List, ◌∷◌, [], drop, map}
+use Rattle.std.specs.Prelude.{◌≡◌, ℕ, ◌+◌, ◌<◌, ◌≤◌, ◌^◌, length, List, ◌∷◌, drop, map}
 use Rattle.erl_syntax.specs.Word.{Word}
 use Rattle.erl_syntax.specs.Tokens.{token_text}
-use Rattle.erl_syntax.specs.Characters.{string_characters, atom_text}
+pub use Rattle.erl_syntax.specs.Reading.{characters_of}
 use Rattle.erl_syntax.specs.declared.token.TokenKind.{TokenKind}
 use Rattle.clause_read.specs.declared.source.Numbered.{Numbered}
 use Rattle.erl_syntax.specs.declared.token.TokenKind.TheVariants as k
@@ -17,13 +17,6 @@ pub record IsSound (text : List ℕ) (n : Numbered) : Type 0 where
   pub narrow : n.value < 2 ^ 127
   pub ordered : n.token.from ≤ n.token.to
   pub within : n.token.to ≤ length text
-
--- the characters that a token of a kind stands for
-abbrev pub characters_of : TokenKind → List ℕ → List ℕ
-characters_of k.Atom text = atom_text text
-characters_of k.Variable text = text
-characters_of k.Str text = string_characters text
-characters_of _ text = []
 
 abbrev pub word_of : List ℕ → Numbered → Word
 word_of text n = record { kind = n.token.kind; at = n.token.span; number = number_of n n.token.kind; chars = characters_of n.token.kind (token_text text n.token) }

@@ -11,6 +11,9 @@ pub enum Cause {
     UnknownAttribute,
     /// An atom stands where a word of a segment's type has to, and is none.
     UnknownSegmentType,
+    /// No module within the limits goes on so. A reading that is none within the limits was left further left, so it isn't
+    /// decided whether another module goes on so.
+    Undecided,
 }
 
 /// Why a part is not read.

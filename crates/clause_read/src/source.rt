@@ -1,6 +1,6 @@
 ghost use Rattle.std.specs.Prelude.{◌≡◌, ◌≤◌, ◌<◌, ◌+◌, ◌^◌, ◌↔◌, ◌∷◌, [], List, length, drop, pos, false, IsTrue, IfOk, IfSome, OnSome, MatchOption};
 ghost use Rattle.std.specs.Prelude.{All};
-ghost use Rattle.clause_read.specs.Source.{StandsAt, IsSound, words};
+ghost use Rattle.clause_read.specs.Source.{StandsAt, IsSound, words, characters_of};
 ghost use Rattle.clause_read.specs.Wanted.{IsAt, AtomAt, ModuleAt, NoMark, NoModule, FirstCause, mark_in};
 ghost use Rattle.clause_read.specs.Reading.{Gives, closed};
 ghost use Rattle.erl_syntax.specs.Word.{Word};
@@ -8,7 +8,8 @@ ghost use Rattle.erl_syntax.specs.declared.token.TokenKind.TheVariants as k;
 
 use crate::fault::{Cause, Fault};
 use crate::operators::begins_size;
-use erl_syntax::{Text, Token, TokenKind};
+use erl_syntax::{Listed, Text, Token, TokenKind};
+use erl_tokens::{atom_text, string_characters};
 use std::alloc::{AllocError, Global};
 use std::marker::Model;
 
@@ -154,10 +155,27 @@ impl Source {
         }
     }
 
+    /// The characters of the atom that stands there. One in quotes is the same atom as without them.
+    pub fn atom_characters(&self, alloc: Global, at: usize) -> Result<Text, AllocError>
+        requires { at < length self.now }
+        ensures { IfOk result (λ chars. (w : Word) (rest : List Word) → drop at self.now ≡ w ∷ rest → w.kind ≡ k.Atom → chars ≡ w.chars) }
+    {
+        atom_text(alloc, self.bytes(at))
+    }
+
+    /// The numbers of the characters of the string that stands there.
+    pub fn string(&self, alloc: Global, at: usize) -> Result<Listed<u32>, AllocError>
+        requires { at < length self.now }
+        ensures { IfOk result (λ chars. (w : Word) (rest : List Word) → drop at self.now ≡ w ∷ rest → w.kind ≡ k.Str → chars ≡ w.chars) }
+    {
+        let chars = string_characters(alloc, self.bytes(at))?;
+        Ok(Listed::of(chars))
+    }
+
     /// The bytes of the token that stands there.
     fn bytes(&self, at: usize) -> &[u8]
         requires { at < length self.now }
-        ensures { (w : Word) (rest : List Word) → drop at self.now ≡ w ∷ rest → w.kind ≡ k.Variable → result.now ≡ w.chars }
+        ensures { (w : Word) (rest : List Word) → drop at self.now ≡ w ∷ rest → w.chars ≡ characters_of w.kind result.now }
     {
         let token = self.tokens[at].token;
         &self.text[token.from as usize..token.to as usize]

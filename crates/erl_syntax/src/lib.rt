@@ -1,6 +1,7 @@
 //! The syntax of modules: places in a text, texts, lists and trees, which all layers above share.
 #![tactic(auto)]
 
+mod atoms;
 mod built_in;
 mod checking;
 mod clause;
@@ -15,6 +16,7 @@ mod text;
 mod token;
 mod typing;
 
+pub use atoms::{FIXED_ATOMS, fixed_atoms_are_named};
 pub use built_in::{BUILT_INS, BuiltIn};
 pub use checking::{CheckCause, CheckFault, VarUse};
 pub use clause::{Alt, Branch, Guard, Item};

@@ -1,6 +1,6 @@
 use crate::{
-    BUILT_INS, BuiltIn, CheckCause, LexCause, Listed, MARKS, RESERVED, SegFault, Text,
-    longest_mark_first,
+    BUILT_INS, BuiltIn, CheckCause, FIXED_ATOMS, LexCause, Listed, MARKS, RESERVED, SegFault, Text,
+    fixed_atoms_are_named, longest_mark_first,
 };
 use std::test::Fail;
 
@@ -24,6 +24,14 @@ fn words_and_marks_have_their_spelling(rt: HostRuntime) -> Result<(), Fail> {
     assert_eq!(rt; marks, b"...".as_slice());
     let cause = format!(in alloc; "{}", LexCause::NotUtf8)?;
     assert_eq!(rt; cause.as_str(), "not UTF-8");
+    Ok(())
+}
+
+#[test]
+fn fixed_atoms_stand_in_order(rt: HostRuntime) -> Result<(), Fail> {
+    fixed_atoms_are_named();
+    assert_eq!(rt; FIXED_ATOMS[0], b"badarg".as_slice());
+    assert_eq!(rt; FIXED_ATOMS[14], b"normal".as_slice());
     Ok(())
 }
 

@@ -1,8 +1,8 @@
 -- An encoded integer decodes to itself.
-use Rattle.std.proofs.Common.{◌≡◌, ℕ, ℤ, pos, ◌≤◌, ◌*◌, ◌+◌, Bool, true, false, List, [], ◌∷◌, ◌++◌, length, take, drop, Option, Some, None, refl, arith, sym, ap, subst, ◌∙◌}
+use Rattle.std.proofs.Common.{◌≡◌, ℕ, ℤ, ◌≤◌, ◌*◌, Bool, true, List, [], ◌∷◌, ◌++◌, length, drop, Option, Some, arith, sym, ap, subst, ◌∙◌}
 use Rattle.std.proofs.lemmas.List.{length-append}
 use Rattle.std.specs.Prelude.{nat_le, is_some}
-use Rattle.bits_value.specs.Number.{spell, number, InBits, bounded}
+use Rattle.bits_value.specs.Number.{spell, InBits, bounded}
 use Rattle.bits_value.specs.declared.Sign.{Sign}
 use Rattle.bits_value.specs.declared.Endian.{Endian}
 use Rattle.bits_value.proofs.Spellings.{length-spell, number-spell-rest, spell-rest}
@@ -10,8 +10,8 @@ use Rattle.term_value.specs.Value.{VInt}
 use Rattle.term_value.specs.Bounds.{bit_bound}
 use Rattle.term_value.specs.Setting.{Setting}
 use Rattle.term_value.specs.Segment.{Integer}
-use Rattle.term_value.specs.Encode.{Encoded, Bits, integer_bits, encoded_integer, Exactly}
-use Rattle.term_value.specs.Decode.{Taken, Cut, bits_taken, number_taken, bind_where}
+use Rattle.term_value.specs.Encode.{Bits, integer_bits}
+use Rattle.term_value.specs.Decode.{Cut, bits_taken, number_taken, bind_where}
 use Rattle.term_value.specs.Tree.{Variable}
 use Rattle.term_value.specs.Laws.{IntegerReadsBack}
 

@@ -9,7 +9,7 @@ use Rattle.erl_syntax.specs.declared.built_in.BuiltIn.{BuiltIn}
 use Rattle.erl_syntax.specs.declared.built_in.BuiltIn.TheVariants.{IsInteger, IsNumber, IsAtom, IsBoolean, IsPid, IsTuple, IsList, IsBinary, IsBitstring, BitSize, ByteSize, TupleSize, Element, Length, Hd, Tl, Abs, Max, Min, SelfPid, BinaryPart, BinaryPartOf, Exit, Error, SplitBinary, BinaryToList, ListToBinary, IntegerToBinary, BinaryToInteger, TupleToList, ListToTuple, Reverse}
 use Rattle.term_value.specs.Value.{Value, VInt, VAtom, VPid, VTuple, VList, VBits, Values, none, more, count}
 use Rattle.term_value.specs.Order.{order}
-use Rattle.term_value.specs.Atoms.{a_badarg, a_function_clause}
+use Rattle.erl_syntax.specs.Atoms.{a_badarg, a_function_clause}
 use Rattle.term_value.specs.Result.{Raise, Result, Gives, Stops, raise, truth, truth_of}
 use Rattle.term_value.specs.Setting.{Setting}
 use Rattle.term_value.specs.Characters.{bits_of_bytes}

@@ -6,7 +6,7 @@ use Rattle.bits_value.specs.Utf.{is_character}
 use Rattle.bits_value.specs.declared.Endian.{Endian}
 use Rattle.bits_value.specs.declared.UtfKind.{UtfKind}
 use Rattle.term_value.specs.Value.{Value, VInt, VBits, Values, none, more}
-use Rattle.term_value.specs.Atoms.{a_badarg}
+use Rattle.erl_syntax.specs.Atoms.{a_badarg}
 use Rattle.term_value.specs.Result.{Stop, Limit, Result, Gives, Stops, raise}
 use Rattle.term_value.specs.Segment.{Typed, Kind, Integer, Part, Character, Size, Written, Default, Whole, Spelled}
 use Rattle.term_value.specs.Bounds.{bit_bound}

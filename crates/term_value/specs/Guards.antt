@@ -2,7 +2,7 @@
 -- limit is hidden by no guard is this project's own).
 use Rattle.std.specs.Prelude.{Bool, true, false, Option, Some, None}
 use Rattle.term_value.specs.Value.{Value, Values, none, more}
-use Rattle.term_value.specs.Atoms.{a_badarg}
+use Rattle.erl_syntax.specs.Atoms.{a_badarg}
 use Rattle.term_value.specs.Result.{Stop, Raise, Limit, Result, Gives, Stops, raise, raise_of, truth_of}
 use Rattle.term_value.specs.Setting.{Setting}
 use Rattle.term_value.specs.Primitives.{prim}

@@ -1,5 +1,4 @@
 pub mod Arithmetic
-pub mod Atoms
 pub mod Bounds
 pub mod BuiltIns
 pub mod Calls
@@ -7,6 +6,7 @@ pub mod Characters
 pub mod Decode
 pub mod Encode
 pub mod Guards
+pub mod Joining
 pub mod Laws
 pub mod Local
 pub mod Machine
@@ -14,6 +14,7 @@ pub mod Match
 pub mod Operators
 pub mod Orders
 pub mod Order
+pub mod Outcomes
 pub mod Primitives
 pub mod PutIn
 pub mod Read

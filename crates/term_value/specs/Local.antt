@@ -2,7 +2,7 @@
 -- "Processes", "Receive"; what a reduction is, is this project's own).
 use Rattle.std.specs.Prelude.{◌≡◌, ℕ, zero, suc, ◌+◌, ◌-◌, Bool, true, false, List, [], ◌∷◌, nat_eq, nat_lt}
 use Rattle.term_value.specs.Value.{Value, VAtom, none, more}
-use Rattle.term_value.specs.Atoms.{a_normal, a_system_limit, a_reductions}
+use Rattle.erl_syntax.specs.Atoms.{a_normal, a_system_limit, a_reductions}
 use Rattle.term_value.specs.Result.{Stop, Raise, Limit, raise}
 use Rattle.term_value.specs.Tree.{Tree, Val, Var, All, First, Choose, Receive, Gather, Trees, end, and, Shut, Then, Last, Alts, AndAlso, OrElse, Clauses, no_clause, clause, Quals, turn, give, from, test, Levels, bottom, level, Module}
 use Rattle.term_value.specs.Match.{Picked, Body, NoClause, PickLimit, picked}

@@ -5,7 +5,7 @@ use Rattle.std.specs.Prelude.{◌≡◌, ℕ, ◌+◌, ◌-◌, ◌≤◌, Bool,
 use Rattle.std.specs.Ordering.{is_eq, nat_cmp}
 use Rattle.std.specs.Cmp.Lexicographic.{slice_cmp}
 use Rattle.term_value.specs.Value.{Value, VAtom, VPid, Values, none, more, count}
-use Rattle.term_value.specs.Atoms.{a_undef}
+use Rattle.erl_syntax.specs.Atoms.{a_undef}
 use Rattle.term_value.specs.Result.{Limit, raise, truth}
 use Rattle.term_value.specs.Tree.{Val, All, Call, Trees, end, and, Function, Module}
 use Rattle.term_value.specs.Step.{SendTo, Show, Start}

@@ -11,7 +11,7 @@ use Rattle.term_value.specs.declared.computed.Arith.TheVariants as a
 use Rattle.term_value.specs.Value.{Value, VInt}
 use Rattle.term_value.specs.Order.{order}
 use Rattle.term_value.specs.Arithmetic.{arithmetic, no_bits}
-use Rattle.term_value.specs.Atoms.{a_badarg, a_badarith}
+use Rattle.erl_syntax.specs.Atoms.{a_badarg, a_badarith}
 use Rattle.term_value.specs.Result.{Limit, Result, Gives, Stops, raise, truth, truth_of}
 
 abbrev pub arithmetic_result : Arith → Result

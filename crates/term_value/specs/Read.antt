@@ -8,7 +8,7 @@ use Rattle.erl_syntax.specs.declared.expr.Op.TheVariants as o
 use Rattle.erl_syntax.specs.declared.expr.Prefix.{Prefix}
 use Rattle.erl_syntax.specs.declared.expr.Prefix.TheVariants as p
 use Rattle.term_value.specs.Value.{Value, VInt, VAtom, VList, row}
-use Rattle.term_value.specs.Atoms.{a_ok}
+use Rattle.erl_syntax.specs.Atoms.{a_ok}
 use Rattle.term_value.specs.Segment.{Typed}
 use Rattle.term_value.specs.Typing.{typed_of}
 use Rattle.term_value.specs.Calls.{called}

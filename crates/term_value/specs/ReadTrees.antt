@@ -15,7 +15,7 @@ use Rattle.erl_syntax.specs.declared.module.Name as syntax_name
 use Rattle.erl_syntax.specs.declared.module.Head as syntax_head
 use Rattle.erl_syntax.specs.declared.module.Module as syntax_module
 use Rattle.term_value.specs.Value.{VInt, VAtom, none}
-use Rattle.term_value.specs.Atoms.{a_ok}
+use Rattle.erl_syntax.specs.Atoms.{a_ok}
 use Rattle.term_value.specs.Tree.{MakeTuple, Table, Items, Bits, Anything, Variable, Tree, Val, Var, All, First, Choose, Receive, Gather, Alts, Guard, InList, InBits, bottom, Clauses, no_clause, clause, Function, Module, Pattern, PWild, PVar, PVal, PTuple, PBits, PSame, no_pattern, pattern_and}
 use Rattle.term_value.specs.Read.{Reading, Read, expression, literal, trees, only, integers, Piece, pieces, trees, body, built_from, segments, listed, prefixed, operation, Line, patterns, guard_of, Branch, clauses, Qualifier, Generates, Filters, qualified, pattern_list, call}
 

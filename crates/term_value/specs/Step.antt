@@ -2,7 +2,7 @@
 -- "Comprehensions", "Processes"; that parts open left to right is this project's own).
 use Rattle.std.specs.Prelude.{ℕ, Bool, true, false, List, [], ◌∷◌, ◌++◌, Option, Some, None, slice_get, slice_index_or}
 use Rattle.term_value.specs.Value.{Value, VAtom, VPid, VList, VBits, Values, none, more}
-use Rattle.term_value.specs.Atoms.{a_badarg, a_badmatch, a_case_clause, a_if_clause, a_function_clause, a_bad_generator, a_bad_filter, a_undef}
+use Rattle.erl_syntax.specs.Atoms.{a_badarg, a_badmatch, a_case_clause, a_if_clause, a_function_clause, a_bad_generator, a_bad_filter, a_undef}
 use Rattle.term_value.specs.Result.{Stop, Limit, Result, Gives, Stops, raise, raise_of, truth_of}
 use Rattle.term_value.specs.Bounds.{within}
 use Rattle.term_value.specs.Setting.{Setting}

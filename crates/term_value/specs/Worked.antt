@@ -7,7 +7,7 @@ use Rattle.bits_value.specs.declared.Endian.TheVariants.{Big, Little}
 use Rattle.bits_value.specs.declared.UtfKind.TheVariants.{Utf8, Utf16}
 use Rattle.erl_syntax.specs.declared.expr.Op.TheVariants as o
 use Rattle.term_value.specs.Value.{Value, VInt, VAtom, VBits, row}
-use Rattle.term_value.specs.Atoms.{fixed_atoms, a_badarg, a_ok}
+use Rattle.erl_syntax.specs.Atoms.{fixed_atoms, a_badarg, a_ok}
 use Rattle.term_value.specs.Result.{Limit, Result, Gives, Stops, raise}
 use Rattle.term_value.specs.Segment.{Typed, Integer, Part, Character, Written, Default, Whole, Spelled}
 use Rattle.term_value.specs.Setting.{Setting}

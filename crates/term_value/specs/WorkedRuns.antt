@@ -2,7 +2,7 @@
 use Rattle.std.specs.Prelude.{codes, ◌≡◌, ℕ, true, false, List, [], ◌∷◌, ◌++◌, Option, Some, None}
 use Rattle.erl_syntax.specs.declared.expr.Op.TheVariants as o
 use Rattle.term_value.specs.Value.{Value, VAtom, VTuple, VList, VBits, none, more, row}
-use Rattle.term_value.specs.Atoms.{a_badarg, a_badmatch, a_bad_generator, a_bad_filter, a_if_clause, a_case_clause, a_system_limit, a_reductions, a_undef, a_true, a_false, a_ok}
+use Rattle.erl_syntax.specs.Atoms.{a_badarg, a_badmatch, a_bad_generator, a_bad_filter, a_if_clause, a_case_clause, a_system_limit, a_reductions, a_undef, a_true, a_false, a_ok}
 use Rattle.erl_syntax.specs.declared.built_in.BuiltIn.TheVariants.{SelfPid}
 use Rattle.term_value.specs.Step.{Show}
 use Rattle.term_value.specs.Tree.{Build, Operate, Native, MakeTuple, MakeList, MakeListOn, Table, Call, Send, Display, Spawn, Variable, Equal, Tree, Val, Var, All, First, Choose, Receive, Gather, Items, Bits, Trees, end, and, Then, Last, Alts, AndAlso, OrElse, Clauses, no_clause, clause, Guard, never, or, give, from, test, InList, InBits, bottom, Pattern, PWild, PVar, PVal, PTuple, Patterns, no_pattern, pattern_and, Segments, no_segment, segment, Function, Module}

@@ -8,15 +8,26 @@ mod entry;
 mod laws;
 mod look;
 mod measure;
+mod names;
+mod outcome;
 mod rows;
 mod runs;
+mod showing;
 mod term;
+#[cfg(test)]
+mod tests;
 
 pub use arithmetic::arith;
 pub use comparison::compare;
 pub use computed::Arith;
 pub use entry::Entry;
-pub use laws::{complete_is_last, each_asks, integer_reads_back};
+pub use laws::{
+    character_reads_back, complete_is_last, each_asks, entry_is_line, equal_is_same,
+    integer_reads_back, legal_is_short, names_by_characters, one_order, order_is_total,
+    outcome_reports,
+};
 pub use look::Look;
 pub use measure::{depth, weight};
+pub use outcome::Outcome;
+pub use showing::show;
 pub use term::{Items, Term};
