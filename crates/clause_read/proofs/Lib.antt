@@ -1,2 +1,14 @@
+pub mod AllForms
+pub mod ClauseReads
+pub mod Counting
+pub mod FormExits
+pub mod FormLaws
+pub mod FormReads
+pub mod FormSteps
+pub mod FormWords
+pub mod FunctionLaws
 pub mod Interning
+pub mod Modules
+pub mod NameLaws
 pub mod Numbers
+pub mod Texts

@@ -1,4 +1,11 @@
 //! Modules read from their texts: the module that a text spells, or the first token with which no module can go on.
 #![tactic(auto)]
 
-pub mod numbering;
+mod forms;
+mod numbering;
+mod read;
+
+pub use read::{ReadCause, ReadFault, read_module};
+
+#[cfg(test)]
+mod tests;

@@ -1,0 +1,79 @@
+use crate::read_module;
+use std::alloc::{AllocError, Global};
+use std::test::Fail;
+
+/// The first fault of a text, as a report tells it.
+fn told(alloc: Global, text: &[u8]) -> Result<String, AllocError> {
+    match read_module(alloc, text) {
+        Ok(_) => format!(in alloc; "a module"),
+        Err(fault) => format!(in alloc; "{}:{}: {}", fault.line, fault.column, fault.why),
+    }
+}
+
+#[test]
+fn a_module_is_read(rt: HostRuntime) -> Result<(), Fail> {
+    let alloc = rt.alloc();
+    let text =
+        b"-module(m).\n-export([main/0, f/2]).\n-vsn({1,.. )}).\nmain() -> f(1, []).\nf(X, _) when X > 0 -> ok; f(X, [Y|_]) -> Z = Y, X + Z.\n";
+    let Ok(module) = read_module(alloc, text.as_slice()) else {
+        assert!(rt; false);
+        return Ok(());
+    };
+    assert_eq!(rt; module.heads.items().len(), 1);
+    assert_eq!(rt; module.heads.items()[0].name, 16);
+    assert_eq!(rt; module.exports.items()[1].arity, 2);
+    assert_eq!(rt; module.functions.items().len(), 2);
+    assert_eq!(rt; module.functions.items()[1].clauses.items().len(), 2);
+    assert_eq!(rt; module.atoms.items().len(), 21);
+    assert_eq!(rt; module.atoms.items()[18].bytes(), b"main".as_slice());
+    assert_eq!(rt; module.last.line, 6);
+    Ok(())
+}
+
+#[test]
+fn a_text_without_an_end_is_refused_there(rt: HostRuntime) -> Result<(), Fail> {
+    let alloc = rt.alloc();
+    let text = b"-module(m).\n-export([main/0]).\nmain() -> <<1,";
+    let fault = told(alloc, text.as_slice())?;
+    assert_eq!(rt; fault.as_str(), "3:15: syntax");
+    Ok(())
+}
+
+#[test]
+fn a_bracket_too_many_is_told_where_it_stands(rt: HostRuntime) -> Result<(), Fail> {
+    let alloc = rt.alloc();
+    let text =
+        b"-module(m).\n-export([main/0]).\nmain() -> (((((((((((((((((((((((((((((((((((((((((((((((((((((((((((((((((1";
+    let fault = told(alloc, text.as_slice())?;
+    assert_eq!(rt; fault.as_str(), "3:75: too deep");
+    Ok(())
+}
+
+#[test]
+fn a_fault_of_tokens_comes_first(rt: HostRuntime) -> Result<(), Fail> {
+    let alloc = rt.alloc();
+    let text =
+        b"-module m.\n-export([main/0]).\nmain() -> 170141183460469231731687303715884105728.";
+    let fault = told(alloc, text.as_slice())?;
+    assert_eq!(rt; fault.as_str(), "3:11: integer too wide");
+    Ok(())
+}
+
+#[test]
+fn forms_are_refused_at_their_first_wrong_token(rt: HostRuntime) -> Result<(), Fail> {
+    let alloc = rt.alloc();
+    let rows = [
+        ("-define(x).", "1:2: unknown attribute"),
+        ("-if(x).", "1:2: syntax"),
+        ("-'module'(m).", "a module"),
+        ("-module(m)", "1:11: syntax"),
+        ("-export([f/X]).", "1:12: syntax"),
+        ("-spec f(", "1:9: syntax"),
+        ("", "a module"),
+    ];
+    for (text, wanted) in rows {
+        let fault = told(alloc, text.as_bytes())?;
+        assert_eq!(rt; fault.as_str(), wanted);
+    }
+    Ok(())
+}
