@@ -1,12 +1,11 @@
-//! Modules read from their tokens: the tree that they spell, or the first token with which no module can go on.
+//! Modules read from their texts: the module that a text spells, or the first token with which no module can go on.
 #![tactic(auto)]
 
-pub mod fault;
-pub mod numbering;
-mod operators;
-pub mod placed;
-pub mod segment_types;
-pub mod sizes;
-pub mod source;
+mod forms;
+mod numbering;
+mod read;
+
+pub use read::{ReadCause, ReadFault, read_module};
+
 #[cfg(test)]
 mod tests;

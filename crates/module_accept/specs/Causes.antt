@@ -7,6 +7,8 @@ use Rattle.erl_syntax.specs.declared.typing.SegFault.{SegFault}
 use Rattle.erl_syntax.specs.declared.typing.SegFault.TheVariants as s
 use Rattle.erl_syntax.specs.declared.checking.CheckCause.{CheckCause}
 use Rattle.erl_syntax.specs.declared.checking.CheckCause.TheVariants as c
+use Rattle.clause_read.specs.declared.read.ReadCause.{ReadCause}
+use Rattle.clause_read.specs.declared.read.ReadCause.TheVariants as r
 
 -- a fault of tokens
 abbrev pub token_text : LexCause → List ℕ
@@ -19,6 +21,16 @@ token_text l.Float = codes "float"
 token_text l.IntegerTooWide = codes "integer too wide"
 token_text l.AtomTooLong = codes "atom too long"
 token_text l.NoMemory = codes "out of memory"
+
+-- why a text isn't read
+abbrev pub read_text : ReadCause → List ℕ
+read_text r.TextTooLong = codes "text too long"
+read_text (r.Token why) = token_text why
+read_text r.Syntax = codes "syntax"
+read_text r.TooDeep = codes "too deep"
+read_text r.UnknownAttribute = codes "unknown attribute"
+read_text r.UnknownSegmentType = codes "unknown segment type"
+read_text r.NoMemory = codes "out of memory"
 
 -- a fault of a segment
 abbrev pub segment_text : SegFault → List ℕ

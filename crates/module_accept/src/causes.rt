@@ -1,6 +1,7 @@
 ghost use Rattle.std.specs.Prelude.{◌≡◌};
-ghost use Rattle.module_accept.specs.Causes.{token_text, segment_text, check_text};
+ghost use Rattle.module_accept.specs.Causes.{token_text, read_text, segment_text, check_text};
 
+use clause_read::ReadCause;
 use erl_syntax::{CheckCause, LexCause, SegFault};
 
 /// The text of a fault of tokens.
@@ -17,6 +18,21 @@ pub fn token_text(why: LexCause) -> &'static str
         LexCause::IntegerTooWide => "integer too wide",
         LexCause::AtomTooLong => "atom too long",
         LexCause::NoMemory => "out of memory",
+    }
+}
+
+/// The text of a fault of reading.
+pub fn read_text(why: ReadCause) -> &'static str
+    ensures { result.now ≡ read_text why }
+{
+    match why {
+        ReadCause::TextTooLong => "text too long",
+        ReadCause::Token(why) => token_text(why),
+        ReadCause::Syntax => "syntax",
+        ReadCause::TooDeep => "too deep",
+        ReadCause::UnknownAttribute => "unknown attribute",
+        ReadCause::UnknownSegmentType => "unknown segment type",
+        ReadCause::NoMemory => "out of memory",
     }
 }
 

@@ -1,10 +1,12 @@
 pub mod Bitwise
+pub mod Bounded
 pub mod Shifts
 pub mod WorkedRows
 pub mod Values
 pub mod Measures
 pub mod Completion
 pub mod SmallNumbers
+pub mod Spellings
 pub mod Smaller
 pub mod Shrinks
 pub mod Finishes
@@ -12,6 +14,7 @@ pub mod Within
 pub mod Compared
 pub mod Joined
 pub mod Outcomes
+pub mod NameOrder
 pub mod OrderLines
 pub mod Ordered
 pub mod ReadsBack

@@ -1,9 +1,14 @@
 //! Laws of encoding and decoding, of local states, of orders, of reports and of the order of terms, each the contract of a call.
-ghost use Rattle.term_value.specs.Laws.{CompleteIsLast, EachAsks, EntryIsLine, EqualIsSame, IntegerReadsBack, OneOrder, OrderIsTotal, OutcomeReports};
+ghost use Rattle.term_value.specs.Laws.{CharacterReadsBack, CompleteIsLast, EachAsks, EntryIsLine, EqualIsSame, IntegerReadsBack, LegalIsShort, NamesByCharacters, OneOrder, OrderIsTotal, OutcomeReports};
 
 /// An integer within its bits and the bound is read back from its encoding, whatever bits follow.
 pub fn integer_reads_back()
     ensures { IntegerReadsBack }
+{}
+
+/// A character is read back from its encoding, whatever bits follow.
+pub fn character_reads_back()
+    ensures { CharacterReadsBack }
 {}
 
 /// Each local state of a process has a next ask.
@@ -14,6 +19,11 @@ pub fn each_asks()
 /// No entry is legal after a complete order.
 pub fn complete_is_last()
     ensures { CompleteIsLast }
+{}
+
+/// A legal order has at most so many entries as the reductions allow.
+pub fn legal_is_short()
+    ensures { LegalIsShort }
 {}
 
 /// The text of an outcome is the report of the machine that came to it.
@@ -29,6 +39,11 @@ pub fn order_is_total()
 /// Equal values over a table of atoms, each with a name of its own, are the same.
 pub fn equal_is_same()
     ensures { EqualIsSame }
+{}
+
+/// The order of names by their bytes in UTF-8 is that by their characters' numbers.
+pub fn names_by_characters()
+    ensures { NamesByCharacters }
 {}
 
 /// A text spells at most one order.

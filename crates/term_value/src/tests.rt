@@ -1,8 +1,9 @@
 ghost use Rattle.std.specs.Prelude.{◌≡◌, ◌≤◌, ◌*◌, ◌<◌, length, slice_index_or, []};
 
 use crate::{
-    Arith, Items, Look, Term, arith, compare, complete_is_last, depth, each_asks, entry_is_line,
-    equal_is_same, integer_reads_back, one_order, order_is_total, outcome_reports, show, weight,
+    Arith, Items, Look, Term, arith, character_reads_back, compare, complete_is_last, depth,
+    each_asks, entry_is_line, equal_is_same, integer_reads_back, legal_is_short,
+    names_by_characters, one_order, order_is_total, outcome_reports, show, weight,
 };
 use bits_value::{Bits, Frozen};
 use erl_syntax::{Listed, Op, Text};
@@ -222,10 +223,13 @@ fn terms_have_a_weight_and_a_depth(rt: HostRuntime) -> Result<(), Fail> {
 #[test]
 fn laws_are_calls() {
     integer_reads_back();
+    character_reads_back();
+    legal_is_short();
     each_asks();
     complete_is_last();
     order_is_total();
     equal_is_same();
+    names_by_characters();
     one_order();
     entry_is_line();
     outcome_reports();

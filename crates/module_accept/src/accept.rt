@@ -1,0 +1,76 @@
+ghost use Rattle.std.specs.Prelude.{◌≡◌, ◌⊎◌, IfOk, IfErr};
+ghost use Rattle.erl_syntax.specs.declared.module.Module.{Module};
+ghost use Rattle.module_accept.specs.Accepting.{Accepts, IsDue};
+ghost use Rattle.module_accept.specs.Outcome.{Refuses};
+
+use crate::causes::{check_text, read_text};
+use crate::line::line;
+use clause_read::{ReadCause, ReadFault, read_module};
+use erl_syntax::{CheckCause, CheckFault, Span};
+use module_check::{Checked, check};
+use std::alloc::{AllocError, Global};
+
+/// Why a text isn't accepted.
+#[derive(Debug, Drop)]
+pub enum Refusal {
+    Memory,
+    /// The line of the first fault, with its line feed.
+    Line(Vec<u8>),
+}
+
+impl From<AllocError> for Refusal {
+    ghost use Rattle.module_accept.specs.declared.accept.Refusal.TheVariants.{Memory};
+    ghost use Rattle.std.specs.Prelude.{◌≡◌};
+
+    ghost from_gives = { λ _ e. e ≡ Memory };
+
+    fn from(_: AllocError) -> Refusal {
+        Refusal::Memory
+    }
+}
+
+/// The refusal of a fault of reading.
+fn unread(alloc: Global, fault: ReadFault) -> Refusal {
+    if fault.why == ReadCause::NoMemory {
+        return Refusal::Memory;
+    }
+    let at = Span {
+        line: fault.line,
+        column: fault.column,
+    };
+    match line(alloc, at, read_text(fault.why)) {
+        Ok(line) => Refusal::Line(line),
+        Err(_) => Refusal::Memory,
+    }
+}
+
+/// The refusal of a fault of a module.
+fn unchecked(alloc: Global, fault: CheckFault) -> Refusal {
+    if fault.why == CheckCause::NoMemory {
+        return Refusal::Memory;
+    }
+    match line(alloc, fault.span, check_text(fault.why)) {
+        Ok(line) => Refusal::Line(line),
+        Err(_) => Refusal::Memory,
+    }
+}
+
+/// The module of a text, where it is accepted.
+///
+/// # Errors
+///
+/// The line of the text's first fault, or that memory ran out.
+pub fn accept(alloc: Global, text: &[u8]) -> Result<Checked, Refusal>
+    ensures accepted { IfOk result (λ checked. Accepts text.now checked.tree) }
+    ensures refused { IfErr result (λ refusal. Refuses text.now refusal) }
+    ensures none { IfErr result (λ refusal. (refusal ≡ Refusal.Memory) ⊎ ((m : Module) → Accepts text.now m → ⊥)) }
+{
+    let module = match read_module(alloc, text) {
+        Ok(module) => module,
+        Err(fault) => return Err(unread(alloc, fault)),
+    };
+    match check(alloc, module) {
+        Ok(checked) => Ok(checked),
+        Err(fault) => Err(unchecked(alloc, fault)),
+    }
+}
