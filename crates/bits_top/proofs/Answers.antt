@@ -5,11 +5,16 @@ use Rattle.std.specs.Fmt.{signed_decimal}
 use Rattle.std.proofs.lemmas.Fmt.{decimal_injective}
 use Rattle.std.proofs.lemmas.List.Folds.{flat_map-map}
 use Rattle.std.specs.Io.KnownBytes.{Consumes, IsAtEnd}
-use Rattle.bits_top.specs.Answer.{Port, Untouched, IsAccepted, IsRefusedWith, IsRun, AnswersRefusal, AnswersAccepted, AnswersRun, IsSmooth, IsSmoothRefusal, IsDoneOrNoMemory, IsRefusedOrNoMemory, text_limit}
-use Rattle.bits_top.specs.Command.{Spells, SpellsRun}
+use Rattle.bits_top.specs.Answer.{Port, Untouched, IsAccepted, IsRefusedText, IsRefusedWith, IsUnaccepted, IsWhole, IsRun, AnswersRefusal, AnswersAccepted, AnswersRun, AnswersCheck, AnswersOk, CantRun, ChecksWell, IsToldWell, IsSmooth, IsSmoothRefusal, IsDoneOrNoMemory, IsRefusedOrNoMemory, text_limit}
+use Rattle.bits_top.specs.Command.{Spells, SpellsCheck, SpellsRun}
 use Rattle.bits_top.specs.declared.command.Command.{Command}
 use Rattle.bits_top.specs.declared.command.Command.TheVariants as made
 use Rattle.bits_top.specs.Form.{IsForm}
+use Rattle.erl_syntax.specs.declared.module.Module.{Module}
+use Rattle.module_accept.specs.Accepting.{Accepts, IsDue}
+use Rattle.module_accept.specs.declared.accepting.Refusal.TheVariants.{Memory, Line}
+use Rattle.std.specs.declared.vec.Vec.{Vec}
+use Rattle.std.specs.declared.alloc.Global.{Global}
 use Rattle.bits_top.specs.Machine.{Left, Machine, AllGone}
 use Rattle.bits_top.specs.Runs.{HasRun, end_of}
 use Rattle.bits_top.specs.Texts.{order_text, processes_text, machine_text}
@@ -75,6 +80,10 @@ held_long (Some xs) (Some ys) bytes h long =
     let l : length xs ≡ length bytes + length ys = ap length h ∙ length-append bytes ys in
     (xs, refl, omega arith)
 
+-- two words aren't five
+two_words : (words : List (List ℕ)) (a b c d e : List ℕ) → words ≡ codes "check" ∷ a ∷ [] → words ≡ codes "run" ∷ b ∷ c ∷ d ∷ e ∷ [] → ⊥
+two_words words a b c d e h k = cc
+
 -- words spell one command
 pub spelled_once : (words : List (List ℕ)) (command : Command) (run : Run) → Spells words command → SpellsRun words run → command ≡ made.Run run
 spelled_once words (made.Run asked) run h k =
@@ -86,6 +95,31 @@ spelled_once words (made.Run asked) run h k =
     let re : asked.reductions ≡ run.reductions = decimal_injective asked.reductions run.reductions (omega (arith, h.reductions_are.at_most)) (omega (arith, k.reductions_are.at_most)) rd in
     let f : ℕ → ℕ → Run = λ x y. record { schedulers = x; reductions = y } in
     ap made.Run (ap (λ x. f x asked.reductions) se ∙ ap (λ y. f run.schedulers y) re)
+spelled_once words made.Check run h k = absurd (two_words words h.source k.source k.order k.schedulers k.reductions h.words_are k.words_are)
+
+pub checked_once : (words : List (List ℕ)) (run : Run) → SpellsCheck words → SpellsRun words run → ⊥
+checked_once words run h k = two_words words h.source k.source k.order k.schedulers k.reductions h.words_are k.words_are
+
+pub same_run_asked : (a b : Run) → made.Run a ≡ made.Run b → a ≡ b
+same_run_asked a b e = cc
+
+-- what was read whole is accepted, or isn't
+pub whole_of : (source : Port) (bytes seen : List ℕ) (m : Module) → seen ≡ bytes → Consumes source.before source.after bytes → IsAtEnd source.after → length bytes ≤ text_limit → Accepts seen m → IsWhole source bytes m
+whole_of source bytes seen m same taken end short a = record { held = held_whole source.before source.after bytes taken end; ended = end; short = short; accepts = (let P : List ℕ → Type 0 = λ v. Accepts v m in subst P same a) }
+
+pub unaccepted : (source : Port) (bytes seen line shown : List ℕ) → seen ≡ bytes → shown ≡ line → Consumes source.before source.after bytes → IsAtEnd source.after → length bytes ≤ text_limit → IsDue seen line →
+    ((m : Module) → Accepts seen m → ⊥) → IsUnaccepted source bytes shown
+unaccepted source bytes seen line shown same told taken end short due none = record {
+  held = held_whole source.before source.after bytes taken end;
+  ended = end;
+  short = short;
+  none = (let P : List ℕ → Type 0 = λ v. (m : Module) → Accepts v m → ⊥ in subst P same none);
+  due = (let P : List ℕ → Type 0 = λ v. IsDue bytes v in let Q : List ℕ → Type 0 = λ v. IsDue v line in subst P (sym told) (subst Q same due));
+}
+
+pub none_accepted : (text : List ℕ) (line : Vec ℕ Global) → (Line line ≡ Memory) ⊎ ((m : Module) → Accepts text m → ⊥) → (m : Module) → Accepts text m → ⊥
+none_accepted text line (inl e) = cc
+none_accepted text line (inr f) = f
 
 -- where no count rises
 
@@ -93,23 +127,28 @@ same_text : (before : Option (List ℕ)) (held text : List ℕ) → before ≡ S
 same_text None held text e h = cc
 same_text (Some x) held text e h = cc
 
-refused_is : (source : Port) (held line text : List ℕ) → source.before ≡ Some text → IsRefusedWith source held line →
-    (text_limit < length text) ⊎ ((straight : Straight) → IsForm text straight → ⊥)
+refused_is : (source : Port) (held line text : List ℕ) → source.before ≡ Some text → IsRefusedWith source held line → CantRun text
 refused_is source held line text told h = elim h [
-  | inl w ↦ (let e : text ≡ held = same_text source.before held text told w.held in inl (rw e w.long))
-  | inr w ↦ (let e : text ≡ held = same_text source.before held text told w.held in inr (rw e w.none))
+  | inl w ↦ elim w [
+    | inl v ↦ (let e : text ≡ held = same_text source.before held text told v.held in inl (rw e v.long))
+    | inr v ↦ (let e : text ≡ held = same_text source.before held text told v.held in inr (inl (rw e v.none)))
+  ]
+  | inr w ↦ (let e : text ≡ held = same_text source.before held text told w.whole.held in inr (inr (rw e w.none)))
 ]
 
-not_both : (text : List ℕ) (straight : Straight) → length text ≤ text_limit → IsForm text straight → (text_limit < length text) ⊎ ((other : Straight) → IsForm text other → ⊥) → ⊥
-not_both text straight short form h = elim h [
+not_both : (text : List ℕ) (m : Module) (straight : Straight) → length text ≤ text_limit → Accepts text m → IsForm text straight → CantRun text → ⊥
+not_both text m straight short a form h = elim h [
   | inl long ↦ omega (arith, long, short)
-  | inr none ↦ none straight form
+  | inr w ↦ elim w [
+    | inl none ↦ none m a
+    | inr none ↦ none straight form
+  ]
 ]
 
 pub smooth_done : (status : Status) (reductions : ℕ) (source report order : Port) → AnswersRun reductions status source report order → IsSmooth source report order → IsDoneOrNoMemory status
 smooth_done Done reductions source report order h s = inl refl
 smooth_done NoMemory reductions source report order h s = inr refl
-smooth_done Refused reductions source report order h s = absurd (not_both s.text s.straight s.short s.form (refused_is source h.text h.line s.text s.told h.read))
+smooth_done Refused reductions source report order h s = absurd (not_both s.text s.tree s.straight s.short s.accepts s.form (refused_is source h.text h.line s.text s.told h.read))
 smooth_done Usage reductions source report order h s = absurd h
 smooth_done ReadFault reductions source report order h s = absurd (s.well.source_well h.fault)
 smooth_done ReportFault reductions source report order h s = elim h [
@@ -119,11 +158,10 @@ smooth_done ReportFault reductions source report order h s = elim h [
 smooth_done OrderFault reductions source report order h s = absurd (s.well.order_well h.fault)
 smooth_done BadOrder reductions source report order h s = absurd h
 
-accepted_not : (source : Port) (held text : List ℕ) (straight : Straight) → source.before ≡ Some text → IsAccepted source held straight →
-    (text_limit < length text) ⊎ ((other : Straight) → IsForm text other → ⊥) → ⊥
+accepted_not : (source : Port) (held text : List ℕ) (straight : Straight) → source.before ≡ Some text → IsAccepted source held straight → CantRun text → ⊥
 accepted_not source held text straight told read h =
-    let e : text ≡ held = same_text source.before held text told read.held in
-    not_both text straight (rw e read.short) (rw e read.form) h
+    let e : text ≡ held = same_text source.before held text told read.whole.held in
+    not_both text read.tree straight (rw e read.whole.short) (rw e read.whole.accepts) (rw e read.form) h
 
 pub smooth_refused : (status : Status) (reductions : ℕ) (source report order : Port) → AnswersRun reductions status source report order → IsSmoothRefusal source report order → IsRefusedOrNoMemory status
 smooth_refused Done reductions source report order h s = absurd (accepted_not source h.text s.text h.straight s.told h.read s.refused)
@@ -137,3 +175,66 @@ smooth_refused ReportFault reductions source report order h s = elim h [
 ]
 smooth_refused OrderFault reductions source report order h s = absurd (s.well.order_well h.fault)
 smooth_refused BadOrder reductions source report order h s = absurd h
+
+-- ---- `check`
+
+pub found_answers : (status : Status) (text : List ℕ) (m : Module) (source report : Port) → IsWhole source text m → AnswersOk status report → AnswersCheck status source report
+found_answers Done text m source report w h = record { text = text; tree = m; whole = w; reported = h }
+found_answers ReportFault text m source report w h = inl (record { text = text; tree = m; whole = w; fault = h.0; reported = h.1 })
+found_answers Refused text m source report w h = absurd h
+found_answers Usage text m source report w h = h
+found_answers ReadFault text m source report w h = absurd h
+found_answers OrderFault text m source report w h = h
+found_answers NoMemory text m source report w h = tt
+found_answers BadOrder text m source report w h = h
+
+pub refused_check : (status : Status) (text line : List ℕ) (source report : Port) → IsRefusedText source text line → AnswersRefusal status report line → AnswersCheck status source report
+refused_check Refused text line source report read h = record { text = text; line = line; read = read; reported = h }
+refused_check ReportFault text line source report read h = inr (record { text = text; line = line; read = read; fault = h.0; reported = h.1 })
+refused_check Done text line source report read h = absurd h
+refused_check Usage text line source report read h = h
+refused_check ReadFault text line source report read h = absurd h
+refused_check OrderFault text line source report read h = h
+refused_check NoMemory text line source report read h = tt
+refused_check BadOrder text line source report read h = h
+
+whole_not : (source : Port) (held text : List ℕ) (m : Module) → source.before ≡ Some text → IsWhole source held m → (text_limit < length text) ⊎ ((n : Module) → Accepts text n → ⊥) → ⊥
+whole_not source held text m told w h = let e : text ≡ held = same_text source.before held text told w.held in elim h [
+  | inl long ↦ (let s : length text ≤ text_limit = rw e w.short in omega (arith, long, s))
+  | inr none ↦ none m (rw e w.accepts)
+]
+
+refused_not : (source : Port) (held line text : List ℕ) (m : Module) → source.before ≡ Some text → IsRefusedText source held line → length text ≤ text_limit → Accepts text m → ⊥
+refused_not source held line text m told h short a = elim h [
+  | inl w ↦ (let e : text ≡ held = same_text source.before held text told w.held in let l : text_limit < length text = rw e w.long in omega (arith, l, short))
+  | inr w ↦ (let e : text ≡ held = same_text source.before held text told w.held in let n : (k : Module) → Accepts text k → ⊥ = rw e w.none in n m a)
+]
+
+check_done : (status : Status) (source report : Port) → AnswersCheck status source report → (text : List ℕ) (m : Module) → IsToldWell source report text → length text ≤ text_limit → Accepts text m → IsDoneOrNoMemory status
+check_done Done source report h text m w short a = inl refl
+check_done NoMemory source report h text m w short a = inr refl
+check_done Refused source report h text m w short a = absurd (refused_not source h.text h.line text m w.told h.read short a)
+check_done Usage source report h text m w short a = absurd h
+check_done ReadFault source report h text m w short a = absurd (w.source_well h.fault)
+check_done ReportFault source report h text m w short a = elim h [
+  | inl v ↦ absurd (w.report_well v.fault)
+  | inr v ↦ absurd (w.report_well v.fault)
+]
+check_done OrderFault source report h text m w short a = absurd h
+check_done BadOrder source report h text m w short a = absurd h
+
+check_refused : (status : Status) (source report : Port) → AnswersCheck status source report → (text : List ℕ) → IsToldWell source report text → (text_limit < length text) ⊎ ((m : Module) → Accepts text m → ⊥) → IsRefusedOrNoMemory status
+check_refused Done source report h text w r = absurd (whole_not source h.text text h.tree w.told h.whole r)
+check_refused NoMemory source report h text w r = inr refl
+check_refused Refused source report h text w r = inl refl
+check_refused Usage source report h text w r = absurd h
+check_refused ReadFault source report h text w r = absurd (w.source_well h.fault)
+check_refused ReportFault source report h text w r = elim h [
+  | inl v ↦ absurd (w.report_well v.fault)
+  | inr v ↦ absurd (w.report_well v.fault)
+]
+check_refused OrderFault source report h text w r = absurd h
+check_refused BadOrder source report h text w r = absurd h
+
+pub checks_well : (status : Status) (source report : Port) → AnswersCheck status source report → ChecksWell status source report
+checks_well status source report h = record { accepts = check_done status source report h; refuses = check_refused status source report h }

@@ -4,6 +4,8 @@ use Rattle.std.specs.Io.KnownBytes.{Appends, IsAtEnd}
 use Rattle.io_ports.specs.Causes.{Rose}
 use Rattle.bits_top.specs.Stream.{AppendsPrefix}
 use Rattle.bits_top.specs.Form.{IsForm}
+use Rattle.erl_syntax.specs.declared.module.Module.{Module}
+use Rattle.module_accept.specs.Accepting.{Accepts, IsDue}
 use Rattle.bits_top.specs.Machine.{IsLegal, IsComplete}
 use Rattle.bits_top.specs.Runs.{start}
 use Rattle.bits_top.specs.Texts as texts
@@ -47,11 +49,17 @@ TookFront p bytes = AppendsPrefix p.before p.after bytes
 abbrev pub text_limit : ℕ
 text_limit = 1_048_576
 
--- The source was read to its end, and its text spells the module.
-pub record IsAccepted (source : Port) (text : List ℕ) (straight : Straight) : Type 0 where
+-- The source was read to its end, and its text is that of an accepted module.
+pub record IsWhole (source : Port) (text : List ℕ) (m : Module) : Type 0 where
   pub held : Held source text
   pub ended : IsAtEnd source.after
   pub short : length text ≤ text_limit
+  pub accepts : Accepts text m
+
+-- So it is, and the module has today's form.
+pub record IsAccepted (source : Port) (text : List ℕ) (straight : Straight) : Type 0 where
+  pub tree : Module
+  pub whole : IsWhole source text tree
   pub form : IsForm text straight
 
 pub record IsTooLong (source : Port) (text line : List ℕ) : Type 0 where
@@ -59,17 +67,28 @@ pub record IsTooLong (source : Port) (text line : List ℕ) : Type 0 where
   pub long : text_limit < length text
   pub due : line ≡ codes "1:1: text too long\n"
 
--- The source was read to its end, and its text spells no module that can be run today.
-pub record IsNotBuilt (source : Port) (text line : List ℕ) : Type 0 where
+-- The source was read to its end, and its text is that of no accepted module: the line tells its first fault.
+pub record IsUnaccepted (source : Port) (text line : List ℕ) : Type 0 where
   pub held : Held source text
   pub ended : IsAtEnd source.after
   pub short : length text ≤ text_limit
+  pub none : (m : Module) → Accepts text m → ⊥
+  pub due : IsDue text line
+
+-- The text's module is accepted, and can't be run today.
+pub record IsNotBuilt (source : Port) (text line : List ℕ) : Type 0 where
+  pub tree : Module
+  pub whole : IsWhole source text tree
   pub none : (straight : Straight) → IsForm text straight → ⊥
   pub due : line ≡ codes "1:1: not built\n"
 
--- The text is refused with this line.
+-- The text is refused with this line, whatever is to be done with it.
+abbrev pub IsRefusedText : Port → List ℕ → List ℕ → Type 0
+IsRefusedText source text line = IsTooLong source text line ⊎ IsUnaccepted source text line
+
+-- The text is refused with this line where it is to be run.
 abbrev pub IsRefusedWith : Port → List ℕ → List ℕ → Type 0
-IsRefusedWith source text line = IsTooLong source text line ⊎ IsNotBuilt source text line
+IsRefusedWith source text line = IsRefusedText source text line ⊎ IsNotBuilt source text line
 
 -- An order of the module's copying machine, legal and complete, and its two texts.
 pub record IsRun (straight : Straight) (reductions : ℕ) (order report : List ℕ) : Type 0 where
@@ -199,20 +218,26 @@ pub record AreWell (source report order : Port) : Type 0 where
   pub report_well : Faulted report → ⊥
   pub order_well : Faulted order → ⊥
 
--- The source tells the text of a module that can be run, and no count rises.
+-- The source tells the text of an accepted module that can be run, and no count rises.
 pub record IsSmooth (source report order : Port) : Type 0 where
   pub text : List ℕ
   pub told : source.before ≡ Some text
   pub short : length text ≤ text_limit
+  pub tree : Module
+  pub accepts : Accepts text tree
   pub straight : Straight
   pub form : IsForm text straight
   pub well : AreWell source report order
 
--- The source tells a text that is too long or spells no such module, and no count rises.
+-- a text that can't be run: it is too long, or no accepted module's, or hasn't today's form
+abbrev pub CantRun : List ℕ → Type 0
+CantRun text = (text_limit < length text) ⊎ (((m : Module) → Accepts text m → ⊥) ⊎ ((straight : Straight) → IsForm text straight → ⊥))
+
+-- The source tells a text that can't be run, and no count rises.
 pub record IsSmoothRefusal (source report order : Port) : Type 0 where
   pub text : List ℕ
   pub told : source.before ≡ Some text
-  pub refused : (text_limit < length text) ⊎ ((straight : Straight) → IsForm text straight → ⊥)
+  pub refused : CantRun text
   pub well : AreWell source report order
 
 abbrev pub IsDoneOrNoMemory : Status → Type 0
@@ -220,3 +245,72 @@ IsDoneOrNoMemory status = (status ≡ Done) ⊎ (status ≡ NoMemory)
 
 abbrev pub IsRefusedOrNoMemory : Status → Type 0
 IsRefusedOrNoMemory status = (status ≡ Refused) ⊎ (status ≡ NoMemory)
+
+-- ---- `check`
+
+-- The text's module is accepted, and the report is `ok`.
+pub record IsFound (source report : Port) : Type 0 where
+  pub text : List ℕ
+  pub tree : Module
+  pub whole : IsWhole source text tree
+  pub reported : Took report (codes "ok\n")
+
+-- The refusal's line is the whole report.
+pub record IsRefusedCheck (source report : Port) : Type 0 where
+  pub text : List ℕ
+  pub line : List ℕ
+  pub read : IsRefusedText source text line
+  pub reported : Took report line
+
+pub record IsUnread (source report : Port) : Type 0 where
+  pub fault : Faulted source
+  pub reported : Untouched report
+
+-- `ok` was due
+pub record IsOkUnwritten (source report : Port) : Type 0 where
+  pub text : List ℕ
+  pub tree : Module
+  pub whole : IsWhole source text tree
+  pub fault : Faulted report
+  pub reported : TookFront report (codes "ok\n")
+
+-- the line of a refusal was due
+pub record IsLineUnwritten (source report : Port) : Type 0 where
+  pub text : List ℕ
+  pub line : List ℕ
+  pub read : IsRefusedText source text line
+  pub fault : Faulted report
+  pub reported : TookFront report line
+
+-- What the answer to `check` says. Want of memory is free.
+abbrev pub AnswersCheck : Status → Port → Port → Type 0
+AnswersCheck Done source report = IsFound source report
+AnswersCheck Refused source report = IsRefusedCheck source report
+AnswersCheck Usage source report = ⊥
+AnswersCheck ReadFault source report = IsUnread source report
+AnswersCheck ReportFault source report = IsOkUnwritten source report ⊎ IsLineUnwritten source report
+AnswersCheck OrderFault source report = ⊥
+AnswersCheck NoMemory source report = Unit {0}
+AnswersCheck BadOrder source report = ⊥
+
+-- What the answer says of the report where the module is accepted.
+abbrev pub AnswersOk : Status → Port → Type 0
+AnswersOk Done report = Took report (codes "ok\n")
+AnswersOk ReportFault report = Faulted report × TookFront report (codes "ok\n")
+AnswersOk Refused report = ⊥
+AnswersOk Usage report = ⊥
+AnswersOk ReadFault report = ⊥
+AnswersOk OrderFault report = ⊥
+AnswersOk NoMemory report = ⊥
+AnswersOk BadOrder report = ⊥
+
+-- The source tells a text, and no count rises.
+pub record IsToldWell (source report : Port) (text : List ℕ) : Type 0 where
+  pub told : source.before ≡ Some text
+  pub source_well : Faulted source → ⊥
+  pub report_well : Faulted report → ⊥
+
+-- `check` finds an accepted module accepted, and refuses every other text.
+pub record ChecksWell (status : Status) (source report : Port) : Type 0 where
+  pub accepts : (text : List ℕ) (m : Module) → IsToldWell source report text → length text ≤ text_limit → Accepts text m → IsDoneOrNoMemory status
+  pub refuses : (text : List ℕ) → IsToldWell source report text → (text_limit < length text) ⊎ ((m : Module) → Accepts text m → ⊥) → IsRefusedOrNoMemory status

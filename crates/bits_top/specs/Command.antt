@@ -22,6 +22,13 @@ pub record SpellsRun (words : List (List ℕ)) (run : Run) : Type 0 where
   pub schedulers_are : SpellsNumber schedulers 1 64 run.schedulers
   pub reductions_are : SpellsNumber reductions 1 4_000_000 run.reductions
 
+-- the words `check MODULE`; a file name isn't empty
+pub record SpellsCheck (words : List (List ℕ)) : Type 0 where
+  pub source : List ℕ
+  pub words_are : words ≡ codes "check" ∷ source ∷ []
+  pub source_some : 0 < length source
+
 -- the words of a command
 abbrev pub Spells : List (List ℕ) → Command → Type 0
 Spells words (c.Run run) = SpellsRun words run
+Spells words c.Check = SpellsCheck words

@@ -1,6 +1,6 @@
 // The words of a command line.
 ghost use Rattle.std.specs.Prelude.{◌≡◌, ◌≤◌, ◌<◌, ℕ, List, map, string_bytes, MatchOption};
-ghost use Rattle.bits_top.specs.Command.{Spells, SpellsNumber, SpellsRun};
+ghost use Rattle.bits_top.specs.Command.{Spells, SpellsCheck, SpellsNumber, SpellsRun};
 ghost use Rattle.bits_top.specs.declared.command.Command.{Command};
 ghost use Rattle.bits_top.specs.declared.command.Run.{Run};
 
@@ -10,6 +10,7 @@ use itoa::Buffer;
 #[derive(Clone, Copy, Debug, PartialEq, Eq)]
 pub(crate) enum Command {
     Run(Run),
+    Check,
 }
 
 // `run MODULE ORDER SCHEDULERS REDUCTIONS`
@@ -55,12 +56,28 @@ fn run_of(words: &[String]) -> Option<Run>
     })
 }
 
+// Whether the words ask for the check of a module.
+fn check_of(words: &[String]) -> Option<()>
+    ensures { MatchOption result (SpellsCheck (map string_bytes words.now) → ⊥) (λ _. SpellsCheck (map string_bytes words.now)) }
+{
+    let [name, module] = words else {
+        return None;
+    };
+    if name.as_str() != "check" || module.is_empty() {
+        return None;
+    }
+    Some(())
+}
+
 // The command that the words spell, if they spell one.
 pub(crate) fn command_of(words: &[String]) -> Option<Command>
     ensures { MatchOption result ((command : Command) → Spells (map string_bytes words.now) command → ⊥) (λ command. Spells (map string_bytes words.now) command) }
 {
-    let Some(run) = run_of(words) else {
+    if let Some(run) = run_of(words) {
+        return Some(Command::Run(run));
+    }
+    let Some(()) = check_of(words) else {
         return None;
     };
-    Some(Command::Run(run))
+    Some(Command::Check)
 }

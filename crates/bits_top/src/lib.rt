@@ -5,6 +5,7 @@ mod command;
 mod entry;
 mod form;
 mod matching;
+mod plain;
 mod program;
 mod reader;
 mod run;
@@ -12,7 +13,8 @@ mod status;
 mod streams;
 mod texts;
 
-pub use program::top;
+pub use plain::Plain;
+pub use program::{top, top_plain};
 pub use status::Status;
 
 #[cfg(test)]

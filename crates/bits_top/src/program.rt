@@ -1,6 +1,6 @@
 // The top call: the words of a command line, the ports, the answer.
 ghost use Rattle.std.specs.Prelude.{◌≡◌, ◌≤◌, ◌↔◌, ℕ, List, All, IfOk, map, string_bytes};
-ghost use Rattle.bits_top.specs.Answer.{AnswersAccepted, AnswersRefusal, AnswersRun, IsDoneOrNoMemory, IsRefusedOrNoMemory, IsRun, IsSmooth, IsSmoothRefusal, Untouched, port};
+ghost use Rattle.bits_top.specs.Answer.{AnswersAccepted, AnswersCheck, AnswersOk, AnswersRefusal, AnswersRun, ChecksWell, IsDoneOrNoMemory, IsRefusedOrNoMemory, IsRun, IsSmooth, IsSmoothRefusal, Untouched, port};
 ghost use Rattle.bits_top.specs.Command.{Spells};
 ghost use Rattle.bits_top.specs.Form.{IsStraight};
 ghost use Rattle.bits_top.specs.Runs.{IsShort};
@@ -10,8 +10,9 @@ ghost use Rattle.bits_top.specs.declared.command.Run.{Run};
 use crate::command::{Command, command_of};
 use crate::form::Straight;
 use crate::streams::{ReadError, read_all, write_all};
-use crate::{Status, reader, run, texts};
+use crate::{Plain, Status, reader, run, texts};
 use io_ports::{Gate, Place, Sink, Source};
+use module_accept::{Refusal, accept};
 use std::alloc::{AllocError, Global};
 use std::sync::Wait;
 use std::thread::Threads;
@@ -21,9 +22,10 @@ const TEXT_LIMIT: u32 = 1_048_576;
 
 /// Does what the words of a command line ask for, over these ports, and answers how it ended.
 ///
-/// The words are those after the program's own name. Today the one command is `run MODULE ORDER SCHEDULERS REDUCTIONS`:
-/// the module's text is read from `module`, the order of the visible acts is written to `order_out`, and then the report
-/// to `report`. The file names stand in the words for the caller, who opens the files. `order_in` isn't used.
+/// The words are those after the program's own name. `run MODULE ORDER SCHEDULERS REDUCTIONS` reads the module's text from
+/// `module`, writes the order of the visible acts to `order_out`, and then the report to `report`. `check MODULE` reads the
+/// module's text and writes `ok` to `report`. A text that isn't accepted is refused by both, with the line of its first fault
+/// as the report. The file names stand in the words for the caller, who opens the files. `order_in` isn't used.
 pub fn top<R: Threads + Wait + Sync, S: Source, T: Source, A: Sink, B: Sink, G: Gate + Sync>(
     _rt: &R,
     alloc: Global,
@@ -55,6 +57,15 @@ pub fn top<R: Threads + Wait + Sync, S: Source, T: Source, A: Sink, B: Sink, G: 
         (port A.written A.faults report.old report.new)
         (port B.written B.faults order_out.old order_out.new)
         → IsRefusedOrNoMemory result }
+    ensures check { Spells (map string_bytes words.now) Command.Check → AnswersCheck result
+        (port S.left S.faults «module».old «module».new)
+        (port A.written A.faults report.old report.new) }
+    ensures check_leaves { Spells (map string_bytes words.now) Command.Check →
+        Untouched (port T.left T.faults order_in.old order_in.new)
+        × Untouched (port B.written B.faults order_out.old order_out.new) }
+    ensures checks { Spells (map string_bytes words.now) Command.Check → ChecksWell result
+        (port S.left S.faults «module».old «module».new)
+        (port A.written A.faults report.old report.new) }
 {
     match command_of(words) {
         None => Status::Usage,
@@ -62,6 +73,62 @@ pub fn top<R: Threads + Wait + Sync, S: Source, T: Source, A: Sink, B: Sink, G: 
             gate.at(Place::Took { worker: 0, pid: 1 });
             run_module(alloc, asked.reductions, module, report, order_out)
         }
+        Some(Command::Check) => top_plain(alloc, &Plain::Check, module, order_in, report),
+    }
+}
+
+/// Does what a command that waits for nothing asks for, over these ports, and answers how it ended.
+///
+/// `Check` reads the module's text from `module` and writes `ok` to `report`, or the line of the text's first fault.
+/// `order_in` isn't used.
+pub fn top_plain<S: Source, T: Source, A: Sink>(
+    alloc: Global,
+    command: &Plain,
+    module: &mut S,
+    order_in: &mut T,
+    report: &mut A,
+) -> Status
+    ensures check { command.now ≡ Plain.Check → AnswersCheck result
+        (port S.left S.faults «module».old «module».new)
+        (port A.written A.faults report.old report.new) }
+    ensures leaves { Untouched (port T.left T.faults order_in.old order_in.new) }
+    ensures checks { command.now ≡ Plain.Check → ChecksWell result
+        (port S.left S.faults «module».old «module».new)
+        (port A.written A.faults report.old report.new) }
+{
+    match command {
+        Plain::Check => check_module(alloc, module, report),
+    }
+}
+
+// Reads the module, and finds it accepted or refuses its text.
+fn check_module<S: Source, A: Sink>(alloc: Global, source: &mut S, report: &mut A) -> Status
+    ensures check { AnswersCheck result
+        (port S.left S.faults source.old source.new)
+        (port A.written A.faults report.old report.new) }
+{
+    let text = match read_all(alloc, source, TEXT_LIMIT) {
+        Ok(text) => text,
+        Err(ReadError::Fault) => return Status::ReadFault,
+        Err(ReadError::Memory) => return Status::NoMemory,
+    };
+    if text.len() > TEXT_LIMIT as usize {
+        return refuse(report, b"1:1: text too long\n");
+    }
+    match accept(alloc, &text) {
+        Ok(_) => found(report),
+        Err(Refusal::Line(line)) => refuse(report, &line),
+        Err(Refusal::Memory) => Status::NoMemory,
+    }
+}
+
+// Writes that a module is accepted.
+fn found<A: Sink>(report: &mut A) -> Status
+    ensures { AnswersOk result (port A.written A.faults report.old report.new) }
+{
+    match write_all(report, b"ok\n") {
+        Ok(()) => Status::Done,
+        Err(_) => Status::ReportFault,
     }
 }
 
@@ -87,6 +154,11 @@ fn run_module<S: Source, A: Sink, B: Sink>(
     if text.len() > TEXT_LIMIT as usize {
         return refuse(report, b"1:1: text too long\n");
     }
+    let _checked = match accept(alloc, &text) {
+        Ok(checked) => checked,
+        Err(Refusal::Line(line)) => return refuse(report, &line),
+        Err(Refusal::Memory) => return Status::NoMemory,
+    };
     match reader::read(alloc, &text) {
         Ok(Some(straight)) => answer(alloc, reductions, &straight, report, order),
         Ok(None) => refuse(report, b"1:1: not built\n"),

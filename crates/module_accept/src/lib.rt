@@ -1,5 +1,8 @@
 //! Whether a text is that of an accepted module, or the line with which it is refused.
 #![tactic(auto)]
 
-pub mod causes;
-pub mod line;
+mod accepting;
+mod causes;
+mod lines;
+
+pub use accepting::{Refusal, accept};

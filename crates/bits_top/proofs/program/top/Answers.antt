@@ -1,5 +1,6 @@
-use Rattle.bits_top.proofs.Answers.{smooth_done, smooth_refused, spelled_once}
-use Rattle.bits_top.specs.declared.command.Command.TheVariants.{Run}
+use Rattle.std.proofs.Common.{sym, ◌∙◌}
+use Rattle.bits_top.proofs.Answers.{checked_once, same_run_asked, smooth_done, smooth_refused, spelled_once}
+use Rattle.bits_top.specs.declared.command.Command.TheVariants.{Check, Run}
 use Rattle.bits_top.proofs.program.top.Goals as goal
 
 pub returns-in-None-clause-run : goal.returns-in-None-clause-run
@@ -13,7 +14,7 @@ returns-in-None-clause-refuses g c = λ run h s. absurd (c.in-None.ensures (Run 
 
 pub returns-in-Some-Run-clause-run : goal.returns-in-Some-Run-clause-run
 returns-in-Some-Run-clause-run g c = λ run h.
-    let same = spelled_once _ c.in-Some-Run.field-0 run c.in-Some-Run.ensures h in
+    let same = same_run_asked c.in-Some-Run.asked run (sym c.in-Some-Run.field-0-is ∙ spelled_once _ c.in-Some-Run.field-0 run c.in-Some-Run.ensures h) in
     rw same at c.run_module.ensures
 
 pub returns-in-Some-Run-clause-complete : goal.returns-in-Some-Run-clause-complete
@@ -21,3 +22,9 @@ returns-in-Some-Run-clause-complete g c = λ run h s. smooth_done c.run_module.r
 
 pub returns-in-Some-Run-clause-refuses : goal.returns-in-Some-Run-clause-refuses
 returns-in-Some-Run-clause-refuses g c = λ run h s. smooth_refused c.run_module.result _ _ _ _ c.run_module.ensures s
+
+pub returns-in-None-clause-check : goal.returns-in-None-clause-check
+returns-in-None-clause-check g c = λ h. c.in-None.ensures Check h
+
+pub returns-in-None-clause-checks : goal.returns-in-None-clause-checks
+returns-in-None-clause-checks g c = λ h. absurd (c.in-None.ensures Check h)

@@ -1,10 +1,15 @@
-ghost use Rattle.std.specs.Prelude.{◌≡◌, ◌⊎◌, IfOk, IfErr};
+ghost use Rattle.std.specs.Prelude.{◌≡◌, ◌⊎◌, ℕ, List, IfOk, IfErr};
+ghost use Rattle.erl_syntax.specs.Reading.{Reads};
+ghost use Rattle.erl_syntax.specs.Checking.{IsFirstFault};
 ghost use Rattle.erl_syntax.specs.declared.module.Module.{Module};
-ghost use Rattle.module_accept.specs.Accepting.{Accepts, IsDue};
+ghost use Rattle.erl_syntax.specs.declared.checking.CheckCause.TheVariants as c;
+ghost use Rattle.clause_read.specs.ReadText.{IsReadFault};
+ghost use Rattle.clause_read.specs.declared.read.ReadCause.TheVariants as r;
+ghost use Rattle.module_accept.specs.Accepting.{Accepts};
 ghost use Rattle.module_accept.specs.Outcome.{Refuses};
 
 use crate::causes::{check_text, read_text};
-use crate::line::line;
+use crate::lines::line;
 use clause_read::{ReadCause, ReadFault, read_module};
 use erl_syntax::{CheckCause, CheckFault, Span};
 use module_check::{Checked, check};
@@ -19,7 +24,7 @@ pub enum Refusal {
 }
 
 impl From<AllocError> for Refusal {
-    ghost use Rattle.module_accept.specs.declared.accept.Refusal.TheVariants.{Memory};
+    ghost use Rattle.module_accept.specs.declared.accepting.Refusal.TheVariants.{Memory};
     ghost use Rattle.std.specs.Prelude.{◌≡◌};
 
     ghost from_gives = { λ _ e. e ≡ Memory };
@@ -30,7 +35,10 @@ impl From<AllocError> for Refusal {
 }
 
 /// The refusal of a fault of reading.
-fn unread(alloc: Global, fault: ReadFault) -> Refusal {
+fn unread(alloc: Global, fault: ReadFault) -> Refusal
+    ensures told { (text : List ℕ) → IsReadFault text fault → Refuses text result }
+    ensures memory { fault.why ≡ r.NoMemory → result ≡ Refusal.Memory }
+{
     if fault.why == ReadCause::NoMemory {
         return Refusal::Memory;
     }
@@ -45,7 +53,10 @@ fn unread(alloc: Global, fault: ReadFault) -> Refusal {
 }
 
 /// The refusal of a fault of a module.
-fn unchecked(alloc: Global, fault: CheckFault) -> Refusal {
+fn unchecked(alloc: Global, fault: CheckFault) -> Refusal
+    ensures told { (text : List ℕ) (m : Module) → Reads text m → (fault.why ≡ c.NoMemory) ⊎ IsFirstFault m fault.span fault.why → Refuses text result }
+    ensures memory { fault.why ≡ c.NoMemory → result ≡ Refusal.Memory }
+{
     if fault.why == CheckCause::NoMemory {
         return Refusal::Memory;
     }
