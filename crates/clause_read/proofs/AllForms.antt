@@ -1,5 +1,5 @@
 -- The returns of the reader of all forms.
-use Rattle.std.proofs.Common.{◌≡◌, ℕ, List, [], ◌∷◌, ◌++◌, drop, Ok, Err, refl, sym, ap, subst, ◌∙◌, append-nil}
+use Rattle.std.proofs.Common.{◌≡◌, ℕ, List, [], ◌++◌, drop, Ok, Err, sym, ap, subst, ◌∙◌, append-nil}
 use Rattle.erl_syntax.specs.declared.module.Head.{Head}
 use Rattle.erl_syntax.specs.declared.module.Name.{Name}
 use Rattle.erl_syntax.specs.declared.module.Function.{Function}
@@ -9,7 +9,7 @@ use Rattle.pattern_read.specs.declared.fault.Fault.TheVariants.{Memory, Refused}
 use Rattle.clause_read.specs.declared.forms.ModuleForms.{ModuleForms}
 use Rattle.clause_read.specs.declared.forms.Form.{Form}
 use Rattle.clause_read.specs.declared.forms.Collected.{Collected}
-use Rattle.pattern_read.specs.Reading.{Passes, IsRefused, nothing}
+use Rattle.pattern_read.specs.Reading.{Passes, nothing}
 use Rattle.clause_read.specs.WantedForms.{anything, forms_in, with_form, collected_before, Adds, ReadsForms}
 use Rattle.pattern_read.proofs.Passing.{and_then, refused_after, same_kinds, remade}
 use Rattle.clause_read.proofs.FormLaws.{no_more_forms, on_no_forms}

@@ -1,22 +1,20 @@
 -- The returns of the readers of clauses and of functions.
-use Rattle.std.proofs.Common.{◌≡◌, ℕ, suc, ◌+◌, ◌<◌, Bool, get_or, List, [], ◌∷◌, ◌++◌, length, drop, Result, Ok, Err, refl, sym, ap, subst, ◌∙◌, arith, append_assoc, append-nil}
+use Rattle.std.proofs.Common.{◌≡◌, ℕ, suc, ◌+◌, ◌<◌, get_or, List, [], ◌∷◌, ◌++◌, length, drop, Ok, Err, sym, ap, subst, ◌∙◌, arith, append_assoc, append-nil}
 use Rattle.std.proofs.Math.Seq.{drop-cons}
 use Rattle.erl_syntax.specs.declared.span.Span.{Span}
-use Rattle.erl_syntax.specs.declared.token.TokenKind.{TokenKind}
 use Rattle.erl_syntax.specs.declared.token.TokenKind.TheVariants as k
 use Rattle.erl_syntax.specs.declared.pattern.Pattern.{Pattern}
 use Rattle.erl_syntax.specs.declared.clause.Guard.{Guard}
 use Rattle.erl_syntax.specs.declared.clause.Item.{Item}
 use Rattle.erl_syntax.specs.declared.module.Function.{Function}
 use Rattle.erl_syntax.specs.declared.module.Clause.{Clause}
-use Rattle.erl_syntax.specs.Grammar.{Goal}
 use Rattle.erl_syntax.specs.Word.{Word}
 use Rattle.pattern_read.specs.declared.fault.Fault.{Fault}
 use Rattle.pattern_read.specs.declared.fault.Fault.TheVariants.{Memory, Refused}
 use Rattle.pattern_read.specs.declared.fault.Cause.TheVariants.{Syntax}
 use Rattle.clause_read.specs.declared.forms.ModuleForms.{ModuleForms}
 use Rattle.pattern_read.specs.declared.source.Numbered.{Numbered}
-use Rattle.pattern_read.specs.Reading.{Passes, IsRefused, closed, nothing, Gives}
+use Rattle.pattern_read.specs.Reading.{Passes, IsRefused, closed, Gives}
 use Rattle.pattern_read.specs.Source.{StandsAt, number_of}
 use Rattle.pattern_read.specs.Wanted.{IsAt, NoMark}
 use Rattle.body_read.specs.WantedExprs.{body_longer, guarded_in, body_in}
@@ -24,9 +22,9 @@ use Rattle.pattern_read.specs.WantedPatterns.{patterns_in}
 use Rattle.clause_read.specs.WantedForms.{anything, forms_in, clause_in, with_function, Adds}
 use Rattle.pattern_read.proofs.Passing.{and_then, refused_after, fault_after, same_kinds, behind_closed, at_token, remade}
 use Rattle.pattern_read.proofs.Operands.{some_word}
-use Rattle.clause_read.proofs.FormSteps.{marked, then_mark, then_no_mark, then_part, then_fault}
+use Rattle.clause_read.proofs.FormSteps.{then_mark, then_no_mark, then_part, then_fault}
 use Rattle.clause_read.proofs.FormReads.{passes_at}
-use Rattle.clause_read.proofs.FunctionLaws.{in_head, in_clause, guard_and_body, clause_rest, clause_left, clause_at, on_clause, opens_rest, guard_spelled, body_spelled, no_clause, clauses_left, function_left, function_of, with_clauses, with_clause, on_function, on_more_clauses, on_end_clauses, no_more_clauses, clauses_spelled, behind_clause, other_begins}
+use Rattle.clause_read.proofs.FunctionLaws.{in_head, in_clause, guard_and_body, clause_rest, clause_left, clause_at, on_clause, opens_rest, guard_spelled, body_spelled, no_clause, clauses_left, function_left, with_clauses, on_function, on_more_clauses, on_end_clauses, no_more_clauses, clauses_spelled, behind_clause, other_begins}
 
 -- ---- A clause
 

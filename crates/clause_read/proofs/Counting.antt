@@ -1,11 +1,11 @@
 -- A list of patterns has no more patterns than tokens.
-use Rattle.std.proofs.Common.{◌≡◌, ℕ, suc, ◌+◌, ◌≤◌, List, [], ◌∷◌, ◌++◌, length, drop, Ok, refl, sym, ap, ◌∙◌, arith, append-nil, subst}
+use Rattle.std.proofs.Common.{◌≡◌, ℕ, ◌+◌, ◌≤◌, List, [], ◌∷◌, ◌++◌, length, drop, Ok, ap, ◌∙◌, arith, append-nil}
 use Rattle.std.proofs.lemmas.List.{length-append, length-drop}
 use Rattle.erl_syntax.specs.declared.token.TokenKind.{TokenKind}
 use Rattle.erl_syntax.specs.declared.pattern.Pattern.{Pattern}
 use Rattle.erl_syntax.specs.Word.{Word}
 use Rattle.erl_syntax.specs.Grammar.{Context, Limits, strict, Goal, Mark, At, The, Of, Part, APattern, Pat, Patterns, MorePatterns, Produces, pattern, pat_variable, pat_wild, pat_integer, pat_signed, pat_character, pat_atom, pat_string, pat_paren, pat_tuple, pat_list, pat_bits, no_patterns, patterns, more_patterns, end_patterns, Spells, ends, takes, begins, this, expands}
-use Rattle.pattern_read.specs.Reading.{Passes, closed, nothing, Gives, IsWide}
+use Rattle.pattern_read.specs.Reading.{closed, Gives, IsWide}
 use Rattle.pattern_read.specs.WantedPatterns.{patterns_in}
 
 -- how many tokens a part needs at least, as far as patterns go

@@ -20,7 +20,7 @@ use Rattle.pattern_read.proofs.Passing.{behind_closed, and_then, refused_after, 
 use Rattle.pattern_read.proofs.Words.{is_yes}
 use Rattle.clause_read.proofs.FormSteps.{OpensFrom, Meaning, meaning, marked, worded, opens_marked, opens_worded, then_mark, then_no_mark, then_word, then_no_word, then_part, then_fault}
 use Rattle.clause_read.proofs.FormLaws.{no_attribute, unknown_attribute}
-use Rattle.clause_read.proofs.NameLaws.{on_skips, on_stop, skipped_refused, name_left, named_by, on_name, opens_nothing, more_names_in, name_and_more, with_name, on_no_names, on_names, on_next_name, on_last_name, no_more_names, more_names_spelled, names_spelled}
+use Rattle.clause_read.proofs.NameLaws.{on_skips, on_stop, skipped_refused, named_by, on_name, opens_nothing, more_names_in, name_and_more, on_no_names, on_names, on_next_name, on_last_name, no_more_names, more_names_spelled}
 
 pub no_attribute_at : (ws : List Word) (at : ℕ) → IsAt ws at k.Minus → NoMark k.Atom (drop (at + 1) ws) → IsRefused anything forms_in (drop at ws) (drop (at + 1) ws) Syntax
 no_attribute_at ws at s n = let P : List Word → Type 0 = λ w. IsRefused anything forms_in w (drop (at + 1) ws) Syntax in subst P (sym s.is) (no_attribute s.word (drop (at + 1) ws) s.kind_is n)

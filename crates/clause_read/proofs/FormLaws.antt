@@ -1,32 +1,22 @@
 -- The laws of forms, names and clauses.
-use Rattle.std.proofs.Common.{◌≡◌, ◌≢◌, ℕ, ◌+◌, ◌≤◌, Bool, true, false, IsTrue, List, [], ◌∷◌, ◌++◌, length, pos, refl, sym, ap, subst, ◌∙◌, arith, inl, inr, ◌⊎◌}
+use Rattle.std.proofs.Common.{◌≡◌, ℕ, true, false, List, [], ◌∷◌, ◌++◌, refl, sym, ap, subst, ◌∙◌, arith, inl, inr}
 use Rattle.std.specs.List.{Contains}
 use Rattle.erl_syntax.specs.declared.span.Span.{Span}
-use Rattle.erl_syntax.specs.declared.token.TokenKind.{TokenKind}
 use Rattle.erl_syntax.specs.declared.token.TokenKind.TheVariants as k
-use Rattle.erl_syntax.specs.declared.expr.Expr.TheVariants as x
-use Rattle.erl_syntax.specs.declared.pattern.Pattern.{Pattern}
-use Rattle.erl_syntax.specs.declared.clause.Guard.{Guard}
-use Rattle.erl_syntax.specs.declared.clause.Item.{Item}
 use Rattle.erl_syntax.specs.declared.module.Head.{Head}
 use Rattle.erl_syntax.specs.declared.module.Name.{Name}
 use Rattle.erl_syntax.specs.declared.module.Function.{Function}
-use Rattle.erl_syntax.specs.declared.module.Clause.{Clause}
 use Rattle.erl_syntax.specs.Word.{Word}
 use Rattle.erl_syntax.specs.Names.{module_word, export_word, skipped_words, IsAttribute}
-use Rattle.erl_syntax.specs.Grammar.{Context, InBody, InSize, whole as whole_tree, Limits, Goal, Mark, At, The, Of, Forms, Skipped, Names, MoreNames, AName, MoreClauses, AClause, Patterns, Guarded, Body, AnItem, MoreItems, Level, no_forms, head, export, skipped, any_form, function, end_skipped, skips, no_names, names, more_names, end_names, name, more_clauses, end_clauses, clause, no_patterns, unguarded, body, item_value, end_items, Spells, ends, takes, begins, this, expands}
-use Rattle.pattern_read.specs.declared.placed.Placed.{Placed}
+use Rattle.erl_syntax.specs.Grammar.{Limits, Goal, Mark, The, Of, Forms, no_forms, head, export, skipped, any_form, function, end_skipped, clause, Spells, takes, begins, this, expands}
 use Rattle.clause_read.specs.declared.forms.ModuleForms.{ModuleForms}
 use Rattle.pattern_read.specs.declared.fault.Cause.TheVariants.{Syntax, UnknownAttribute}
-use Rattle.pattern_read.specs.Reading.{Passes, IsRefused, IsWide, Follows, SameHead, closed, nothing}
+use Rattle.pattern_read.specs.Reading.{Passes, IsRefused, Follows, SameHead, nothing}
 use Rattle.pattern_read.specs.Wanted.{NoMark, no_mark_end, no_mark}
-use Rattle.body_read.specs.WantedExprs.{body_longer, guarded_in, body_in}
-use Rattle.clause_read.specs.WantedForms.{anything, forms_in, skipped_in, names_in, name_in, clause_in, with_head, with_exports, with_skipped, with_function}
-use Rattle.pattern_read.proofs.Passing.{Behind, Spelled}
-use Rattle.pattern_read.proofs.Operands.{mark_word, some_word, some_place, level_completed}
-use Rattle.pattern_read.specs.WantedPatterns.{patterns_in}
+use Rattle.clause_read.specs.WantedForms.{anything, forms_in, skipped_in, names_in, with_head, with_exports, with_skipped}
+use Rattle.pattern_read.proofs.Operands.{mark_word, some_place}
 use Rattle.clause_read.proofs.FormWords.{is_among, apart}
-use Rattle.clause_read.proofs.FormSteps.{Opens, OpensFrom, Meaning, meaning, word_as, word_is, marked, worded, opens_marked, opens_worded}
+use Rattle.clause_read.proofs.FormSteps.{Opens, Meaning, meaning, word_as, word_is, marked, worded}
 
 abbrev pub no_more_forms : ModuleForms
 no_more_forms = record { heads = []; exports = []; functions = [] }

@@ -13,15 +13,15 @@ use Rattle.pattern_read.specs.declared.fault.Cause.TheVariants.{Syntax}
 use Rattle.clause_read.specs.declared.forms.ModuleForms.{ModuleForms}
 use Rattle.clause_read.specs.declared.forms.Attribute.TheVariants as a
 use Rattle.pattern_read.specs.declared.source.Numbered.{Numbered}
-use Rattle.pattern_read.specs.Reading.{Passes, IsRefused, closed, nothing, Gives}
+use Rattle.pattern_read.specs.Reading.{Passes, IsRefused, closed, Gives}
 use Rattle.pattern_read.specs.Source.{StandsAt, number_of}
 use Rattle.pattern_read.specs.Wanted.{IsAt, NoMark, no_mark, no_mark_end}
 use Rattle.clause_read.specs.WantedForms.{anything, forms_in, skipped_in, names_in, with_head, with_exports, with_skipped, listed, Adds, AttributeAt, TokenOf}
-use Rattle.pattern_read.proofs.Passing.{and_then, refused_after, fault_after, same_kinds, behind_closed, at_token, remade, Spelled}
+use Rattle.pattern_read.proofs.Passing.{behind_closed, at_token, remade, Spelled}
 use Rattle.pattern_read.proofs.Operands.{mark_word}
-use Rattle.clause_read.proofs.FormSteps.{Opens, OpensFrom, Meaning, meaning, marked, worded, opens_marked, opens_worded, then_mark, then_no_mark, then_word, then_no_word, then_part, then_fault}
+use Rattle.clause_read.proofs.FormSteps.{Opens, Meaning, meaning, marked, worded, opens_marked, opens_worded, then_mark, then_no_mark, then_word, then_no_word, then_part, then_fault}
 use Rattle.clause_read.proofs.FormLaws.{no_more_forms, forms_end, opens_forms, module_left, export_left, exports_left, skipped_left, head_at, on_module, on_export, on_skipped}
-use Rattle.clause_read.proofs.NameLaws.{names_spelled, skipped_spelled}
+use Rattle.clause_read.proofs.NameLaws.{names_spelled}
 
 -- the same at a place that is written otherwise
 pub passes_at : {X Y : Type 0} {longer : TokenKind → Bool} {w : X → List Goal} {b : Y → List Goal} {f : Y → X} (ws : List Word) (at i j : ℕ) → i ≡ j → Passes longer w (drop at ws) b (drop i ws) f → Passes longer w (drop at ws) b (drop j ws) f

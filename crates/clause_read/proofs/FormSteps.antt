@@ -1,18 +1,15 @@
 -- Single steps of readers: one more token or part of what is left of a wanted thing.
-use Rattle.std.proofs.Common.{◌≡◌, ℕ, ◌+◌, List, [], ◌∷◌, ◌++◌, drop, Ok, Err, IsTrue, Bool, refl, sym, ap, subst, ◌∙◌}
+use Rattle.std.proofs.Common.{◌≡◌, ℕ, ◌+◌, List, [], ◌∷◌, ◌++◌, drop, Ok, Err, Bool, refl, sym, ap, subst, ◌∙◌}
 use Rattle.erl_syntax.specs.declared.span.Span.{Span}
 use Rattle.erl_syntax.specs.declared.token.TokenKind.{TokenKind}
-use Rattle.erl_syntax.specs.declared.token.TokenKind.TheVariants as k
 use Rattle.erl_syntax.specs.Word.{Word}
-use Rattle.erl_syntax.specs.Grammar.{Goal, Limits, Mark, The, Of, Spells, takes, begins, this, expands}
+use Rattle.erl_syntax.specs.Grammar.{Goal, Limits, Mark, The, Spells, takes, this}
 use Rattle.pattern_read.specs.declared.fault.Fault.{Fault}
-use Rattle.pattern_read.specs.declared.fault.Fault.TheVariants.{Memory, Refused}
-use Rattle.pattern_read.specs.declared.fault.Cause.{Cause}
 use Rattle.pattern_read.specs.declared.fault.Cause.TheVariants.{Syntax}
-use Rattle.pattern_read.specs.Reading.{Passes, IsRefused, IsWide, Follows, SameHead, closed, nothing, Gives}
-use Rattle.pattern_read.specs.Wanted.{IsAt, NoMark, no_mark, no_mark_end, mark_in}
+use Rattle.pattern_read.specs.Reading.{Passes, IsRefused, IsWide, SameHead, Gives}
+use Rattle.pattern_read.specs.Wanted.{IsAt, NoMark, no_mark, no_mark_end}
 use Rattle.pattern_read.proofs.Operands.{mark_word}
-use Rattle.pattern_read.proofs.Passing.{Behind, Spelled, and_then, refused_after, first_of_two, refused_first, fault_after, fault_first, same_kinds, behind_closed, at_token, remade}
+use Rattle.pattern_read.proofs.Passing.{Behind, Spelled, and_then, refused_after, first_of_two, fault_after, fault_first, same_kinds, at_token}
 
 -- what is wanted has a spelling
 pub record Opens {Y : Type 0} (b : Y → List Goal) : Type 0 where

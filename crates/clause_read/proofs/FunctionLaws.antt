@@ -1,7 +1,5 @@
 -- The laws of clauses and of functions.
-use Rattle.std.proofs.Common.{◌≡◌, ℕ, ◌+◌, Bool, true, false, IsTrue, List, [], ◌∷◌, ◌++◌, length, drop, Ok, Err, refl, sym, ap, subst, ◌∙◌, append_assoc}
-use Rattle.erl_syntax.specs.declared.span.Span.{Span}
-use Rattle.erl_syntax.specs.declared.token.TokenKind.{TokenKind}
+use Rattle.std.proofs.Common.{◌≡◌, ℕ, false, IsTrue, List, [], ◌∷◌, ◌++◌, length, refl, sym, ap, ◌∙◌}
 use Rattle.erl_syntax.specs.declared.token.TokenKind.TheVariants as k
 use Rattle.erl_syntax.specs.declared.expr.Expr.TheVariants as x
 use Rattle.erl_syntax.specs.declared.pattern.Pattern.{Pattern}
@@ -12,17 +10,17 @@ use Rattle.erl_syntax.specs.declared.module.Name.{Name}
 use Rattle.erl_syntax.specs.declared.module.Function.{Function}
 use Rattle.erl_syntax.specs.declared.module.Clause.{Clause}
 use Rattle.erl_syntax.specs.Word.{Word}
-use Rattle.erl_syntax.specs.Grammar.{Context, InBody, InSize, whole as whole_tree, Limits, Goal, Mark, The, Of, Forms, MoreClauses, AClause, Patterns, Guarded, Body, MoreItems, no_forms, head, export, skipped, any_form, function, more_clauses, end_clauses, clause, no_patterns, unguarded, body, item_value, end_items, Spells, takes, begins, this, expands}
+use Rattle.erl_syntax.specs.Grammar.{Context, InBody, InSize, whole as whole_tree, Limits, Goal, Of, Forms, MoreClauses, AClause, MoreItems, no_forms, head, export, skipped, any_form, function, more_clauses, end_clauses, clause, no_patterns, unguarded, body, item_value, end_items, Spells, takes, begins, this, expands}
 use Rattle.clause_read.specs.declared.forms.ModuleForms.{ModuleForms}
 use Rattle.pattern_read.specs.declared.fault.Cause.TheVariants.{Syntax}
-use Rattle.pattern_read.specs.Reading.{Passes, IsRefused, IsWide, Follows, SameHead, closed, nothing}
+use Rattle.pattern_read.specs.Reading.{Passes, IsRefused, Follows, SameHead}
 use Rattle.pattern_read.specs.Wanted.{NoMark, no_mark_end, no_mark}
 use Rattle.body_read.specs.WantedExprs.{body_longer, guarded_in, body_in}
 use Rattle.pattern_read.specs.WantedPatterns.{patterns_in}
 use Rattle.clause_read.specs.WantedForms.{anything, forms_in, clause_in, with_function}
 use Rattle.pattern_read.proofs.Passing.{Behind, Spelled}
 use Rattle.pattern_read.proofs.Operands.{mark_word, some_word, some_place, level_completed}
-use Rattle.clause_read.proofs.FormSteps.{Opens, marked, opens_marked}
+use Rattle.clause_read.proofs.FormSteps.{Opens, marked}
 use Rattle.clause_read.proofs.FormLaws.{no_more_forms, forms_end}
 
 abbrev pub in_head : Context

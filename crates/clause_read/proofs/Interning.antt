@@ -36,7 +36,7 @@ number_stays false table a = number_pushed table a
 pub number_new : (table : List (List ℕ)) (a : List ℕ) → number_in (with_atom table a) a ≡ number_in table a
 number_new table a = number_stays (nat_lt (number_in table a) (length table)) table a
 
-number_within : (table : List (List ℕ)) (a : List ℕ) → number_in table a ≤ length table
+pub number_within : (table : List (List ℕ)) (a : List ℕ) → number_in table a ≤ length table
 number_within [] a = omega arith
 number_within (x ∷ xs) a = by (bytes_eq x a) (number_within xs a)
   where

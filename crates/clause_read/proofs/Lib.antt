@@ -11,4 +11,5 @@ pub mod Interning
 pub mod Modules
 pub mod NameLaws
 pub mod Numbers
+pub mod Once
 pub mod Texts

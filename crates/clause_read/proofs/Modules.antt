@@ -1,32 +1,27 @@
 -- The module that a text spells, and the fault of a text that spells none.
-use Rattle.std.proofs.Common.{◌≡◌, ℕ, ◌≤◌, ◌<◌, ◌⊎◌, inl, inr, List, [], ◌∷◌, ◌++◌, length, drop, Option, Some, None, refl, sym, ap, subst, ◌∙◌, arith, append-nil}
+use Rattle.std.proofs.Common.{◌≡◌, ℕ, ◌≤◌, ◌<◌, ◌⊎◌, inl, inr, List, [], ◌∷◌, ◌++◌, length, drop, Option, Some, None, refl, sym, ap, subst, ◌∙◌, arith}
 use Rattle.std.proofs.lemmas.List.{length-map}
 use Rattle.erl_syntax.specs.declared.span.Span.{Span}
 use Rattle.erl_syntax.specs.declared.token.Token.{Token}
 use Rattle.erl_syntax.specs.declared.token.LexFault.{LexFault}
 use Rattle.erl_syntax.specs.declared.token.LexCause.{LexCause}
 use Rattle.erl_syntax.specs.declared.token.LexCause.TheVariants.{NoMemory}
-use Rattle.erl_syntax.specs.declared.module.Head.{Head}
-use Rattle.erl_syntax.specs.declared.module.Name.{Name}
-use Rattle.erl_syntax.specs.declared.module.Function.{Function}
 use Rattle.erl_syntax.specs.declared.module.Module.{Module}
 use Rattle.erl_syntax.specs.Word.{Word}
 use Rattle.erl_syntax.specs.Tokens.{Lexes, place}
 use Rattle.erl_syntax.specs.Reading.{Reads, longest_text, atoms_of, words_of, word_of}
-use Rattle.erl_syntax.specs.Grammar.{Goal, Spells, ends, strict}
+use Rattle.erl_syntax.specs.Grammar.{Spells, ends, strict}
 use Rattle.erl_tokens.specs.Cutting.{IsFault}
-use Rattle.pattern_read.specs.declared.fault.Fault.{Fault}
 use Rattle.pattern_read.specs.declared.fault.Cause.{Cause}
 use Rattle.pattern_read.specs.declared.fault.Cause.TheVariants.{Syntax, TooDeep, UnknownAttribute, UnknownSegmentType, Undecided}
 use Rattle.clause_read.specs.declared.forms.ModuleForms.{ModuleForms}
 use Rattle.clause_read.specs.declared.read.ReadFault.{ReadFault}
-use Rattle.clause_read.specs.declared.read.ReadCause.{ReadCause}
 use Rattle.clause_read.specs.declared.read.ReadCause.TheVariants as r
 use Rattle.pattern_read.specs.declared.source.Numbered.{Numbered}
 use Rattle.pattern_read.specs.Source.{words}
-use Rattle.pattern_read.specs.Reading.{Passes, IsRefused, IsWide, IsStrict, Stops, SameHead, Follows, nothing}
+use Rattle.pattern_read.specs.Reading.{Passes, IsRefused, IsWide, Stops, SameHead, Follows, nothing}
 use Rattle.clause_read.specs.WantedForms.{anything, forms_in}
-use Rattle.clause_read.specs.ReadText.{IsReadFault, memory, too_long, of_token, of_word, fault_at, place_in, told, told_of_token}
+use Rattle.clause_read.specs.ReadText.{IsReadFault, memory, of_token, of_word, fault_at, place_in, told, told_of_token}
 
 abbrev pub module_with : ModuleForms → List (List ℕ) → Span → Module
 module_with fs atoms last = record { heads = fs.heads; exports = fs.exports; functions = fs.functions; atoms = atoms; last = last }

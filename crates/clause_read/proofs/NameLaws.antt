@@ -1,17 +1,16 @@
 -- The laws of forms without effect and of lists of names.
-use Rattle.std.proofs.Common.{◌≡◌, ◌≢◌, ℕ, ◌+◌, List, [], ◌∷◌, ◌++◌, pos, refl, sym, ap, subst, ◌∙◌}
-use Rattle.erl_syntax.specs.declared.token.TokenKind.{TokenKind}
+use Rattle.std.proofs.Common.{◌≡◌, List, [], ◌∷◌, ◌++◌, pos, refl, sym, ap, subst, ◌∙◌}
 use Rattle.erl_syntax.specs.declared.token.TokenKind.TheVariants as k
 use Rattle.erl_syntax.specs.declared.module.Name.{Name}
 use Rattle.erl_syntax.specs.Word.{Word}
 use Rattle.erl_syntax.specs.Grammar.{Limits, Goal, Mark, The, Of, Skipped, Names, MoreNames, AName, end_skipped, skips, no_names, names, more_names, end_names, name, Spells, takes, this, expands}
 use Rattle.pattern_read.specs.declared.fault.Cause.TheVariants.{Syntax}
-use Rattle.pattern_read.specs.Reading.{Passes, IsRefused, IsWide, Follows, SameHead, closed, nothing}
+use Rattle.pattern_read.specs.Reading.{Passes, IsRefused, SameHead, closed, nothing}
 use Rattle.pattern_read.specs.Wanted.{NoMark, no_mark_end, no_mark}
 use Rattle.clause_read.specs.WantedForms.{skipped_in, names_in, name_in}
 use Rattle.pattern_read.proofs.Passing.{Spelled}
 use Rattle.pattern_read.proofs.Operands.{mark_word}
-use Rattle.clause_read.proofs.FormSteps.{Opens, OpensFrom, Meaning, meaning, word_as, word_is, marked, worded}
+use Rattle.clause_read.proofs.FormSteps.{Opens, Meaning, meaning, word_as, word_is, marked, worded}
 
 -- ---- A form without effect
 

@@ -1,9 +1,9 @@
 -- What the readers of forms want, and the tokens with which it could go on.
-use Rattle.std.specs.Prelude.{◌≡◌, ℕ, ◌+◌, Bool, true, false, List, [], ◌∷◌, ◌++◌, length, drop, Result, Ok, Err}
+use Rattle.std.specs.Prelude.{◌≡◌, ℕ, ◌+◌, Bool, true, List, [], ◌∷◌, ◌++◌, drop, Result, Ok, Err}
 use Rattle.std.specs.List.{Contains}
 use Rattle.std.specs.declared.vec.Vec.{Vec}
 use Rattle.std.specs.declared.alloc.Global.{Global}
-use Rattle.erl_syntax.specs.Grammar.{Goal, Mark, Of, Forms, Skipped, Names, MoreNames, AName, MoreClauses, AClause}
+use Rattle.erl_syntax.specs.Grammar.{Goal, Of, Forms, Skipped, Names, AName, AClause}
 use Rattle.erl_syntax.specs.Names.{module_word, export_word, skipped_words}
 use Rattle.erl_syntax.specs.Word.{Word}
 use Rattle.erl_syntax.specs.declared.token.TokenKind.{TokenKind}

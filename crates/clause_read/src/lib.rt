@@ -5,6 +5,7 @@ mod forms;
 mod numbering;
 mod read;
 
+pub use numbering::atoms_stand_once;
 pub use read::{ReadCause, ReadFault, read_module};
 
 #[cfg(test)]

@@ -1,4 +1,5 @@
-ghost use Rattle.std.specs.Prelude.{◌≡◌, ◌≤◌, ◌<◌, ◌+◌, ◌^◌, [], map, length, All, IfOk, OnOk};
+ghost use Rattle.std.specs.Prelude.{◌≡◌, ◌≤◌, ◌<◌, ◌+◌, ◌++◌, ◌^◌, ℕ, List, [], map, length, slice_index_or, All, IfOk, OnOk};
+ghost use Rattle.erl_syntax.specs.declared.token.Token.{Token};
 ghost use Rattle.erl_syntax.specs.Atoms.{fixed_atoms};
 ghost use Rattle.erl_syntax.specs.Characters.{integer_value};
 ghost use Rattle.erl_syntax.specs.Reading.{with_atom, number_in, after_token, atoms_of, words_of, word_of};
@@ -156,3 +157,9 @@ pub fn number(
     }
     Ok((read, atoms.names(alloc)?))
 }
+
+/// The table of a text's atoms begins with the fixed atoms and has each atom once: its number is its place.
+pub fn atoms_stand_once()
+    ensures fixed { (text : List ℕ) (tokens : List Token) → (more : List (List ℕ)) × (atoms_of text tokens ≡ fixed_atoms ++ more) }
+    ensures once { (text : List ℕ) (tokens : List Token) (i : ℕ) → i < length (atoms_of text tokens) → number_in (atoms_of text tokens) (slice_index_or (atoms_of text tokens) i []) ≡ i }
+{}

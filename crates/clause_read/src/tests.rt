@@ -1,4 +1,4 @@
-use crate::read_module;
+use crate::{atoms_stand_once, read_module};
 use std::alloc::{AllocError, Global};
 use std::test::Fail;
 
@@ -34,6 +34,7 @@ fn a_module_is_read(rt: HostRuntime) -> Result<(), Fail> {
 fn a_text_without_an_end_is_refused_there(rt: HostRuntime) -> Result<(), Fail> {
     let alloc = rt.alloc();
     let text = b"-module(m).\n-export([main/0]).\nmain() -> <<1,";
+    atoms_stand_once();
     let fault = told(alloc, text.as_slice())?;
     assert_eq!(rt; fault.as_str(), "3:15: syntax");
     Ok(())

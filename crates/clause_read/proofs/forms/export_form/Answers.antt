@@ -1,7 +1,6 @@
 use Rattle.std.proofs.Common.{◌+◌, refl}
 use Rattle.std.proofs.lemmas.Result.{err_from_is_err_and}
 use Rattle.erl_syntax.specs.declared.token.TokenKind.TheVariants as k
-use Rattle.clause_read.specs.WantedForms.{with_exports}
 use Rattle.clause_read.proofs.FormExits.{yes_of}
 use Rattle.clause_read.proofs.FormReads.{listed_token, export_no_open, export_no_list, exports_fault, export_no_close, export_no_stop, export_whole}
 use Rattle.clause_read.proofs.forms.export_form.Goals as goal

@@ -1,4 +1,4 @@
-use Rattle.std.proofs.Common.{rules, refl, arith}
+use Rattle.std.proofs.Common.{rules, arith}
 use Rattle.std.proofs.lemmas.Result.{err_from_is_err_and}
 use Rattle.clause_read.proofs.FormExits.{names_empty, names_begin, names_fault, names_last, names_more, names_other, listed_fault}
 use Rattle.clause_read.proofs.forms.names.Goals as goal

@@ -1,4 +1,4 @@
-use Rattle.std.proofs.Common.{rules, refl}
+use Rattle.std.proofs.Common.{rules}
 use Rattle.std.proofs.lemmas.Result.{err_from_is_err_and}
 use Rattle.clause_read.proofs.AllForms.{forms_fault, forms_step, forms_whole}
 use Rattle.clause_read.proofs.forms.read_forms.Goals as goal
