@@ -12,6 +12,8 @@ use Rattle.bits_top.specs.declared.command.Command.TheVariants as made
 use Rattle.bits_top.specs.Form.{IsForm}
 use Rattle.erl_syntax.specs.declared.module.Module.{Module}
 use Rattle.module_accept.specs.Accepting.{Accepts, IsDue}
+use Rattle.module_accept.specs.Outcome.{Refuses}
+use Rattle.module_accept.specs.declared.accepting.Refusal.{Refusal}
 use Rattle.module_accept.specs.declared.accepting.Refusal.TheVariants.{Memory, Line}
 use Rattle.std.specs.declared.vec.Vec.{Vec}
 use Rattle.std.specs.declared.alloc.Global.{Global}
@@ -107,19 +109,22 @@ same_run_asked a b e = cc
 pub whole_of : (source : Port) (bytes seen : List ℕ) (m : Module) → seen ≡ bytes → Consumes source.before source.after bytes → IsAtEnd source.after → length bytes ≤ text_limit → Accepts seen m → IsWhole source bytes m
 whole_of source bytes seen m same taken end short a = record { held = held_whole source.before source.after bytes taken end; ended = end; short = short; accepts = (let P : List ℕ → Type 0 = λ v. Accepts v m in subst P same a) }
 
-pub unaccepted : (source : Port) (bytes seen line shown : List ℕ) → seen ≡ bytes → shown ≡ line → Consumes source.before source.after bytes → IsAtEnd source.after → length bytes ≤ text_limit → IsDue seen line →
-    ((m : Module) → Accepts seen m → ⊥) → IsUnaccepted source bytes shown
-unaccepted source bytes seen line shown same told taken end short due none = record {
-  held = held_whole source.before source.after bytes taken end;
-  ended = end;
-  short = short;
-  none = (let P : List ℕ → Type 0 = λ v. (m : Module) → Accepts v m → ⊥ in subst P same none);
-  due = (let P : List ℕ → Type 0 = λ v. IsDue bytes v in let Q : List ℕ → Type 0 = λ v. IsDue v line in subst P (sym told) (subst Q same due));
-}
+none_accepted : (text : List ℕ) (refusal : Refusal) (line : Vec ℕ Global) → refusal ≡ Line line → (refusal ≡ Memory) ⊎ ((m : Module) → Accepts text m → ⊥) → (m : Module) → Accepts text m → ⊥
+none_accepted text refusal line is (inl e) = cc
+none_accepted text refusal line is (inr f) = f
 
-pub none_accepted : (text : List ℕ) (line : Vec ℕ Global) → (Line line ≡ Memory) ⊎ ((m : Module) → Accepts text m → ⊥) → (m : Module) → Accepts text m → ⊥
-none_accepted text line (inl e) = cc
-none_accepted text line (inr f) = f
+pub unaccepted : (source : Port) (bytes seen shown : List ℕ) (refusal : Refusal) (line : Vec ℕ Global) → refusal ≡ Line line → seen ≡ bytes → shown ≡ line.items → Consumes source.before source.after bytes → IsAtEnd source.after →
+    length bytes ≤ text_limit → Refuses seen refusal → (refusal ≡ Memory) ⊎ ((m : Module) → Accepts seen m → ⊥) → IsUnaccepted source bytes shown
+unaccepted source bytes seen shown refusal line is same told taken end short due none =
+    let d : IsDue seen line.items = (let P : Refusal → Type 0 = λ r. Refuses seen r in subst P is due) in
+    let n : (m : Module) → Accepts seen m → ⊥ = none_accepted seen refusal line is none in
+    record {
+      held = held_whole source.before source.after bytes taken end;
+      ended = end;
+      short = short;
+      none = (let P : List ℕ → Type 0 = λ v. (m : Module) → Accepts v m → ⊥ in subst P same n);
+      due = (let P : List ℕ → Type 0 = λ v. IsDue bytes v in let Q : List ℕ → Type 0 = λ v. IsDue v line.items in subst P (sym told) (subst Q same d));
+    }
 
 -- where no count rises
 

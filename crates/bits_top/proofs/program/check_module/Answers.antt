@@ -1,5 +1,5 @@
 use Rattle.std.proofs.Common.{◌≤◌, length, codes, refl, arith, rules, inl, inr}
-use Rattle.bits_top.proofs.Answers.{found_answers, refused_check, held_long, none_accepted, unaccepted, whole_of}
+use Rattle.bits_top.proofs.Answers.{refused_check, held_long, unaccepted}
 use Rattle.bits_top.proofs.program.check_module.Goals as goal
 
 pub returns-then-len : goal.returns-then-len
@@ -10,4 +10,4 @@ returns-then-len g c =
 pub returns-in-Err-Line : goal.returns-in-Err-Line
 returns-in-Err-Line g c =
     let short : length c.in-Ok.text.items ≤ 1_048_576 = omega arith in
-    record { check = refused_check c.refuse-in-Err-Line.result c.in-Ok.text.items c.deref-in-Err-Line.result.now _ _ (inr (unaccepted _ c.in-Ok.text.items c.deref.result.now _ c.deref-in-Err-Line.result.now c.deref.ensures.value c.deref-in-Err-Line.ensures.value c.in-Ok.ensures.read.taken (c.in-Ok.ensures.read.whole short) short c.in-Err-Line.ensures.refused (none_accepted _ _ c.in-Err-Line.ensures.none))) c.refuse-in-Err-Line.ensures }
+    record { check = refused_check c.refuse-in-Err-Line.result c.in-Ok.text.items c.deref-in-Err-Line.result.now _ _ (inr (unaccepted _ c.in-Ok.text.items c.deref.result.now c.deref-in-Err-Line.result.now c.in-Err-Line.field-0 _ c.in-Err-Line.field-0-is c.deref.ensures.value c.deref-in-Err-Line.ensures.value c.in-Ok.ensures.read.taken (c.in-Ok.ensures.read.whole short) short c.in-Err-Line.ensures.refused c.in-Err-Line.ensures.none)) c.refuse-in-Err-Line.ensures }

@@ -1,5 +1,5 @@
-use Rattle.std.proofs.Common.{◌≤◌, length, codes, refl, arith, rules, inl, inr}
-use Rattle.bits_top.proofs.Answers.{refusal_answers, accepted_answers, held_long, none_accepted, unaccepted, whole_of}
+use Rattle.std.proofs.Common.{◌≤◌, length, codes, refl, ap, ◌∙◌, arith, rules, inl, inr}
+use Rattle.bits_top.proofs.Answers.{refusal_answers, accepted_answers, held_long, unaccepted, whole_of}
 use Rattle.bits_top.proofs.Sizes.{all_short}
 use Rattle.bits_top.proofs.program.run_module.Goals as goal
 
@@ -12,7 +12,7 @@ returns-then-len g c =
 pub returns-in-Err-Line : goal.returns-in-Err-Line
 returns-in-Err-Line g c =
     let short : length c.in-Ok.text.items ≤ 1_048_576 = omega arith in
-    refusal_answers c.refuse-in-Err-Line.result c.args.reductions c.in-Ok.text.items c.deref-in-Err-Line.result.now _ _ _ (inl (inr (unaccepted _ c.in-Ok.text.items c.deref.result.now _ c.deref-in-Err-Line.result.now c.deref.ensures.value c.deref-in-Err-Line.ensures.value c.in-Ok.ensures.read.taken (c.in-Ok.ensures.read.whole short) short c.in-Err-Line.ensures.refused (none_accepted _ _ c.in-Err-Line.ensures.none)))) (record { told = refl; count = refl })
+    refusal_answers c.refuse-in-Err-Line.result c.args.reductions c.in-Ok.text.items c.deref-in-Err-Line.result.now _ _ _ (inl (inr (unaccepted _ c.in-Ok.text.items c.deref.result.now c.deref-in-Err-Line.result.now c.in-Err-Line.field-0 _ c.in-Err-Line.field-0-is c.deref.ensures.value (c.deref-in-Err-Line.ensures.value ∙ ap (λ v. v.items) c.in-Err-Line.line-is) c.in-Ok.ensures.read.taken (c.in-Ok.ensures.read.whole short) short c.in-Err-Line.ensures.refused c.in-Err-Line.ensures.none))) (record { told = refl; count = refl })
     c.refuse-in-Err-Line.ensures
 
 pub returns-in-Ok-None : goal.returns-in-Ok-None
