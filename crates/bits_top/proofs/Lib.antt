@@ -4,6 +4,8 @@ pub mod Ended
 pub mod Goes
 pub mod ReadingItems
 pub mod Runs
+pub mod SameMatch
+pub mod SamePut
 pub mod Sizes
 pub mod Spelling
 pub mod Words
