@@ -1,7 +1,7 @@
 -- What a process of today's form asks for next, and that it asks for the same in the whole language.
-use Rattle.std.proofs.Common.{◌≡◌, ℕ, ℤ, pos, suc, zero, ◌+◌, ◌-◌, ◌*◌, ◌≤◌, ◌<◌, List, [], ◌∷◌, ◌++◌, length, map, drop, Bool, true, false, cond, nat_eq, nat_lt, Option, Some, None, All, Contains, refl, sym, ap, subst, ◌∙◌, arith, append-nil, slice_get, slice_index_or, codes}
+use Rattle.std.proofs.Common.{◌≡◌, ℕ, ℤ, pos, suc, zero, ◌+◌, ◌≤◌, ◌<◌, List, [], ◌∷◌, ◌++◌, length, map, drop, Bool, true, false, cond, nat_eq, Option, Some, All, refl, sym, ap, subst, ◌∙◌, arith, append-nil, slice_index_or, codes}
 use Rattle.std.proofs.lemmas.Bool.Decides.{nat_tests}
-use Rattle.std.proofs.lemmas.List.Elements.{All-head, All-tail}
+use Rattle.std.proofs.lemmas.List.Elements.{All-tail}
 use Rattle.erl_syntax.specs.Atoms.{a_reductions}
 use Rattle.term_value.specs.Value.{Value, VInt, VAtom}
 use Rattle.term_value.specs.Tree.{Bound, Tree, Val, First, Then, no_pattern}
@@ -14,8 +14,8 @@ use Rattle.bits_top.specs.Tree as own_tree
 use Rattle.bits_top.specs.Local as own_local
 use Rattle.bits_top.specs.Body as own_body
 use Rattle.bits_top.specs.Asks as own_asks
-use Rattle.bits_top.specs.Form.{IsMatch, AreItems, bound_by}
-use Rattle.bits_top.specs.Runs.{IsShort, parts_bits, fields_bits, bounds, known}
+use Rattle.bits_top.specs.Form.{IsMatch, AreItems}
+use Rattle.bits_top.specs.Runs.{IsShort, fields_bits, bounds, known}
 use Rattle.bits_top.specs.Whole.{number_of, lines}
 use Rattle.bits_top.proofs.SameMatch.{built_length, decoded, numbered, Below, own_taken}
 use Rattle.bits_top.specs.declared.form.Field.{Field}

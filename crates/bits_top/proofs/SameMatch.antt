@@ -1,5 +1,5 @@
 -- Bits built and matched in a module of today's form: the same in the whole language.
-use Rattle.std.proofs.Common.{◌≡◌, ℕ, ℤ, pos, suc, zero, ◌+◌, ◌*◌, ◌^◌, ◌≤◌, ◌<◌, List, [], ◌∷◌, ◌++◌, length, take, drop, map, Bool, true, false, cond, nat_eq, nat_le, Option, Some, None, is_some, All, refl, sym, ap, subst, ◌∙◌, arith, append_assoc, append-nil, length-append, length-drop}
+use Rattle.std.proofs.Common.{◌≡◌, ℕ, pos, suc, ◌+◌, ◌*◌, ◌≤◌, List, [], ◌∷◌, ◌++◌, length, take, drop, map, Bool, true, false, cond, nat_eq, nat_le, Option, Some, None, All, refl, sym, ap, ◌∙◌, arith, append_assoc, append-nil, length-append, length-drop}
 use Rattle.std.proofs.lemmas.Bool.Decides.{nat_tests}
 use Rattle.std.proofs.lemmas.List.{length-take-le}
 use Rattle.std.proofs.lemmas.List.Concat.{flat_map-cons}
@@ -10,17 +10,17 @@ use Rattle.bits_value.specs.declared.Sign.TheVariants.{Unsigned}
 use Rattle.bits_value.specs.declared.Endian.TheVariants.{Big}
 use Rattle.bits_value.proofs.Spellings.{length-spell}
 use Rattle.term_value.specs.Value.{Value, Values, none, more, VInt, VBits}
-use Rattle.term_value.specs.Bounds.{bit_bound, is_within, value_or_limit}
+use Rattle.term_value.specs.Bounds.{bit_bound, value_or_limit}
 use Rattle.term_value.specs.Setting.{Setting}
 use Rattle.term_value.specs.Segment.{Typed, Integer, Written}
-use Rattle.term_value.specs.Tree.{Bound, Trees, end, and, Val, Variable, Segments, segment, PBits, Build}
-use Rattle.term_value.specs.PutIn.{value_in, in_target, target_or_variable, in_segments, puts_in}
+use Rattle.term_value.specs.Tree.{Bound, Trees, end, and, Val, Variable, Segments, segment, Build}
+use Rattle.term_value.specs.PutIn.{value_in, in_segments, puts_in}
 use Rattle.term_value.specs.Read.{piece, parts, types, literal, segments, before_size}
-use Rattle.term_value.specs.Result.{Result, Gives}
+use Rattle.term_value.specs.Result.{Gives}
 use Rattle.term_value.specs.Encode.{filled_with, built_on}
 use Rattle.term_value.specs.Primitives.{prim, bounded_result}
-use Rattle.term_value.specs.Decode.{Cut, bound_to, bits_taken, taken_by, reach}
-use Rattle.term_value.specs.Match.{Matched, Yes, matched, all_taken, whole, then_take}
+use Rattle.term_value.specs.Decode.{Cut, bound_to, bits_taken}
+use Rattle.term_value.specs.Match.{Yes, all_taken, whole, then_take}
 use Rattle.term_value.specs.Machine.{value_trees}
 use Rattle.bits_top.specs.Value as own
 use Rattle.bits_top.specs.Tree as own_tree

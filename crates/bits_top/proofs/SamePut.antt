@@ -1,5 +1,5 @@
 -- Values put in twice, in the trees of the whole language.
-use Rattle.std.proofs.Common.{◌≡◌, ℕ, List, [], ◌∷◌, ◌++◌, Bool, true, false, cond, nat_eq, Option, Some, None, refl, ap}
+use Rattle.std.proofs.Common.{◌≡◌, ℕ, List, [], ◌∷◌, ◌++◌, Bool, true, false, cond, nat_eq, Some, refl, ap}
 use Rattle.term_value.specs.Value.{Value}
 use Rattle.term_value.specs.Tree.{Bound, Target, Anything, Variable, Equal, Tree, Val, Var, All, First, Choose, Receive, Gather, Trees, end, and, Shut, Then, Last, Alts, AndAlso, OrElse, Clauses, no_clause, clause, Guard, never, or, Quals, turn, give, from, test, Generator, InList, InBits, Levels, bottom, level, Pattern, PWild, PVar, PVal, PTuple, PList, PListOn, PBits, PSame, Patterns, no_pattern, pattern_and, Segments, no_segment, segment}
 use Rattle.term_value.specs.PutIn.{value_in, tree_or_variable, pattern_or_variable, target_or_variable, in_target, put_in, puts_in, in_shut, in_clauses, in_guard, in_quals, in_generator, in_levels, in_pattern, in_patterns, in_segments}

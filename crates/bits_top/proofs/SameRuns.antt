@@ -1,5 +1,5 @@
 -- A run of a module of today's form is a run of the same module in the whole language, with the same texts.
-use Rattle.std.proofs.Common.{◌≡◌, ◌⊎◌, inl, inr, ℕ, ℤ, suc, zero, ◌+◌, ◌-◌, ◌≤◌, List, [], ◌∷◌, ◌++◌, map, true, Option, Some, None, All, refl, sym, ap, subst, ◌∙◌, arith, codes, slice_index_or}
+use Rattle.std.proofs.Common.{◌≡◌, ◌⊎◌, inl, inr, ℕ, ℤ, suc, zero, ◌-◌, ◌≤◌, List, [], ◌∷◌, ◌++◌, map, true, Option, Some, None, All, refl, sym, ap, subst, ◌∙◌, arith, codes, slice_index_or}
 use Rattle.std.specs.List.{flat_map}
 use Rattle.std.proofs.lemmas.Grind.{common_steps}
 use Rattle.std.proofs.lemmas.List.Concat.{flat_map-cons}
@@ -24,7 +24,7 @@ use Rattle.bits_top.specs.Body.{code_of}
 use Rattle.bits_top.specs.Texts as own_texts
 use Rattle.bits_top.specs.Asks as own_asks
 use Rattle.bits_top.specs.Form.{IsStraight}
-use Rattle.bits_top.specs.Runs.{IsShort, bounds, end_of, with_one, start}
+use Rattle.bits_top.specs.Runs.{IsShort, bounds, end_of, with_one}
 use Rattle.bits_top.specs.Answer.{IsRun}
 use Rattle.bits_top.specs.Whole.{module_of_straight, IsRunOf}
 use Rattle.bits_top.proofs.Goes as today
@@ -310,10 +310,10 @@ same_run others name s (suc left) order report formed short some run =
       entries = map whole_entry run.entries;
       legal = subst (λ m. IsLegal m (map whole_entry run.entries)) (sym at) f.legal;
       complete = (
-        let there : after (start_of code (suc left)) (map whole_entry run.entries) ≡ whole_at code (suc left) f.stage f.all = ap (λ m. after m (map whole_entry run.entries)) at ∙ f.whole in
-        let over_there : own_machine.AllGone (own_at s (suc left) f.stage f.all).processes = subst (λ m. own_machine.AllGone m.processes) f.own run.complete in
-        let gone_there : AllGone (whole_at code (suc left) f.stage f.all).processes = all_gone s code (suc left) f.stage f.all over_there in
-        subst (λ m. AllGone m.processes) (sym there) gone_there);
+          let there : after (start_of code (suc left)) (map whole_entry run.entries) ≡ whole_at code (suc left) f.stage f.all = ap (λ m. after m (map whole_entry run.entries)) at ∙ f.whole in
+          let over_there : own_machine.AllGone (own_at s (suc left) f.stage f.all).processes = subst (λ m. own_machine.AllGone m.processes) f.own run.complete in
+          let gone_there : AllGone (whole_at code (suc left) f.stage f.all).processes = all_gone s code (suc left) f.stage f.all over_there in
+          subst (λ m. AllGone m.processes) (sym there) gone_there);
       ordered = run.ordered ∙ order_lines run.entries;
       reported = run.reported ∙ ap own_texts.machine_text f.own ∙ machine_lines others name s (suc left) f.stage f.all
           ∙ sym (ap reports.machine_text (ap (λ m. after m (map whole_entry run.entries)) at ∙ f.whole));

@@ -1,14 +1,12 @@
 -- The contractions of a process of today's form in the whole language.
-use Rattle.std.proofs.Common.{◌≡◌, ℕ, ℤ, pos, suc, zero, ◌+◌, ◌-◌, ◌*◌, ◌≤◌, ◌<◌, List, [], ◌∷◌, ◌++◌, length, map, Bool, true, false, nat_eq, nat_lt, Option, Some, None, All, refl, sym, ap, subst, ◌∙◌, arith, append-nil, slice_get, slice_index_or, codes}
+use Rattle.std.proofs.Common.{◌≡◌, ℕ, ℤ, suc, zero, ◌+◌, ◌-◌, ◌*◌, ◌≤◌, ◌<◌, List, [], ◌∷◌, ◌++◌, length, map, Bool, true, false, nat_eq, nat_lt, All, refl, sym, ap, subst, ◌∙◌, arith, append-nil, slice_index_or, codes}
 use Rattle.std.proofs.lemmas.Bool.Decides.{nat_tests}
 use Rattle.std.proofs.lemmas.List.Elements.{All-head, All-tail}
 use Rattle.erl_syntax.specs.Atoms.{fixed_atoms, a_reductions}
 use Rattle.term_value.specs.Value.{Value, Values, none, more, VInt, VAtom, VBits}
-use Rattle.term_value.specs.Result.{Raise, raise}
+use Rattle.term_value.specs.Result.{raise}
 use Rattle.term_value.specs.Tree.{Bound, Table, Build, Call, Display, Tree, Val, All as Form, First, end, and, Shut, Then, Last, PBits, Patterns, no_pattern, pattern_and, Module}
 use Rattle.term_value.specs.PutIn.{put_in}
-use Rattle.term_value.specs.Match.{all_matched}
-use Rattle.term_value.specs.Match as match
 use Rattle.term_value.specs.Read.{body, types, segments}
 use Rattle.term_value.specs.Step.{World, setting, Ask, Show, Ready, Goes, Asks, step, steps}
 use Rattle.term_value.specs.Machine.{value_trees, atom_from, first_of}
@@ -19,8 +17,8 @@ use Rattle.bits_top.specs.Form.{IsField, AreItems}
 use Rattle.bits_top.specs.Runs.{IsShort, parts_bits, fields_bits, known}
 use Rattle.bits_top.specs.Whole.{field_pieces, part_piece, lines, module_of_straight}
 use Rattle.bits_top.proofs.SamePut.{put_put}
-use Rattle.bits_top.proofs.SameMatch.{part_values, part_trees, values_put, prim_parts, decoded, numbered, Below, fields_taken, fields_put}
-use Rattle.bits_top.proofs.SameAsks.{Due, finished, exhausted, displaying, value_of, due_display, due, standing, open_body, resting, whole_of, known_more, known_length, numbered_more, all_below, found, even_bits}
+use Rattle.bits_top.proofs.SameMatch.{part_values, part_trees, values_put, prim_parts, decoded, numbered, fields_taken, fields_put}
+use Rattle.bits_top.proofs.SameAsks.{value_of, due_display, due, standing, open_body, resting, whole_of, known_more, known_length, numbered_more, all_below, found, even_bits}
 use Rattle.bits_top.specs.declared.form.Field.{Field}
 use Rattle.bits_top.specs.declared.form.Part.{Part}
 use Rattle.bits_top.specs.declared.form.Item.{Item}

@@ -3,7 +3,7 @@
 use Rattle.std.specs.Prelude.{◌≡◌, ℕ, suc, pos, true, List, [], ◌∷◌, ◌++◌, length, map, codes, cond, nat_eq, Option, Some, None}
 use Rattle.erl_syntax.specs.Atoms.{fixed_atoms}
 use Rattle.term_value.specs.Value.{VInt}
-use Rattle.term_value.specs.Tree.{Display, Tree, Var, All, end, and, clause, no_clause, never, or, PBits, no_pattern, Module}
+use Rattle.term_value.specs.Tree.{Display, Var, All, end, and, clause, no_clause, never, or, PBits, no_pattern, Module}
 use Rattle.term_value.specs.Read.{Read, literal, Piece, piece, built_from, segments, Line, body}
 use Rattle.term_value.specs.ReadTrees.{variable}
 use Rattle.term_value.specs.Machine.{IsLegal, IsComplete, atom_from, start_of}
