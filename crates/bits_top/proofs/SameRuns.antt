@@ -25,7 +25,7 @@ use Rattle.bits_top.specs.Texts as own_texts
 use Rattle.bits_top.specs.Asks as own_asks
 use Rattle.bits_top.specs.Form.{IsStraight}
 use Rattle.bits_top.specs.Runs.{IsShort, bounds, end_of, with_one}
-use Rattle.bits_top.specs.Answer.{IsRun}
+use Rattle.bits_top.specs.Answer.{IsStraightRun}
 use Rattle.bits_top.specs.Whole.{module_of_straight, IsRunOf}
 use Rattle.bits_top.proofs.Goes as today
 use Rattle.bits_top.proofs.SameAsks.{Due, finished, exhausted, displaying, due, Fits, own_of, standing, resting, whole_of, own_goes, due_fits}
@@ -297,7 +297,7 @@ whole_start : (others : List (List ℕ)) (name : ℕ) (s : Straight) (r : ℕ) (
 whole_start others name s r d l =
     ap (λ k. let m : Machine = record { code = module_of_straight others name s; reductions = r; processes = Running k [] ∷ []; shown = [] } in m) (starts others name s r)
 
-pub same_run : (others : List (List ℕ)) (name : ℕ) (s : Straight) (r : ℕ) (order report : List ℕ) → IsStraight s → All IsShort s.items → 1 ≤ r → IsRun s r order report →
+pub same_run : (others : List (List ℕ)) (name : ℕ) (s : Straight) (r : ℕ) (order report : List ℕ) → IsStraight s → All IsShort s.items → 1 ≤ r → IsStraightRun s r order report →
     IsRunOf (module_of_straight others name s) r order report
 same_run others name s zero order report formed short some run = absurd (omega (arith, some))
 same_run others name s (suc left) order report formed short some run =
