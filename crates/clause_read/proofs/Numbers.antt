@@ -7,8 +7,8 @@ use Rattle.erl_syntax.specs.Word.{Word}
 use Rattle.erl_syntax.specs.Tokens.{token_text}
 use Rattle.erl_syntax.specs.Reading.{with_atom, after_token, after_tokens, word_of, words_of}
 use Rattle.erl_syntax.specs.declared.token.Token.{Token}
-use Rattle.clause_read.specs.declared.source.Numbered.{Numbered}
-use Rattle.clause_read.specs.Source.{words, word_of as word_with}
+use Rattle.pattern_read.specs.declared.source.Numbered.{Numbered}
+use Rattle.pattern_read.specs.Source.{words, word_of as word_with}
 use Rattle.clause_read.specs.Numbering.{words_after, with_each}
 use Rattle.clause_read.proofs.Interning.{words_at_once}
 

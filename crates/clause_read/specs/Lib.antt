@@ -1,5 +1,3 @@
 pub mod Numbering
-pub mod Reading
-pub mod Source
-pub mod Wanted
-pub mod WantedPatterns
+pub mod ReadText
+pub mod WantedForms

@@ -1,69 +1,79 @@
-use crate::fault::{Cause, Fault};
-use crate::sizes::size_level;
-use crate::source::{Numbered, Source, are_sound};
-use erl_syntax::{Expr, Op, Span, Token, TokenKind};
+use crate::read_module;
+use std::alloc::{AllocError, Global};
 use std::test::Fail;
 
-/// A token of one line, with its number where it is an integer.
-fn token(kind: TokenKind, from: u32, to: u32, value: u128) -> Numbered {
-    let column = from.saturating_add(1);
-    Numbered {
-        token: Token {
-            kind,
-            span: Span { line: 1, column },
-            from,
-            to,
-        },
-        number: 0,
-        value,
+/// The first fault of a text, as a report tells it.
+fn told(alloc: Global, text: &[u8]) -> Result<String, AllocError> {
+    match read_module(alloc, text) {
+        Ok(_) => format!(in alloc; "a module"),
+        Err(fault) => format!(in alloc; "{}:{}: {}", fault.line, fault.column, fault.why),
     }
 }
 
 #[test]
-fn a_size_is_read_up_to_its_end(rt: HostRuntime) -> Result<(), Fail> {
+fn a_module_is_read(rt: HostRuntime) -> Result<(), Fail> {
     let alloc = rt.alloc();
-    let text = b"(A-1)*2)-".to_vec(alloc)?;
-    let tokens = [
-        token(TokenKind::LeftParen, 0, 1, 0),
-        token(TokenKind::Variable, 1, 2, 0),
-        token(TokenKind::Minus, 2, 3, 0),
-        token(TokenKind::Integer, 3, 4, 1),
-        token(TokenKind::RightParen, 4, 5, 0),
-        token(TokenKind::Star, 5, 6, 0),
-        token(TokenKind::Integer, 6, 7, 2),
-        token(TokenKind::RightParen, 7, 8, 0),
-        token(TokenKind::Minus, 8, 9, 0),
-    ]
-    .to_vec(alloc)?;
-    assert!(rt; are_sound(text.as_slice(), tokens.as_slice()));
-    let source = Source::of(text, tokens);
-    let Ok((read, next)) = size_level(alloc, &source, 0, 0, 1, 1) else {
+    let text =
+        b"-module(m).\n-export([main/0, f/2]).\n-vsn({1,.. )}).\nmain() -> f(1, []).\nf(X, _) when X > 0 -> ok; f(X, [Y|_]) -> Z = Y, X + Z.\n";
+    let Ok(module) = read_module(alloc, text.as_slice()) else {
         assert!(rt; false);
         return Ok(());
     };
-    assert_eq!(rt; next, 7);
-    assert_eq!(rt; read.height, 3);
-    assert!(rt; matches!(&read.tree, Expr::Binary { op: Op::Mul, .. }));
-    let Err(Fault::Refused(at, why)) = size_level(alloc, &source, 8, 0, 1, 64) else {
-        assert!(rt; false);
-        return Ok(());
-    };
-    assert_eq!(rt; at, 9);
-    assert_eq!(rt; why, Cause::Syntax);
+    assert_eq!(rt; module.heads.items().len(), 1);
+    assert_eq!(rt; module.heads.items()[0].name, 16);
+    assert_eq!(rt; module.exports.items()[1].arity, 2);
+    assert_eq!(rt; module.functions.items().len(), 2);
+    assert_eq!(rt; module.functions.items()[1].clauses.items().len(), 2);
+    assert_eq!(rt; module.atoms.items().len(), 21);
+    assert_eq!(rt; module.atoms.items()[18].bytes(), b"main".as_slice());
+    assert_eq!(rt; module.last.line, 6);
     Ok(())
 }
 
 #[test]
-fn a_bracket_too_many_is_too_deep(rt: HostRuntime) -> Result<(), Fail> {
+fn a_text_without_an_end_is_refused_there(rt: HostRuntime) -> Result<(), Fail> {
     let alloc = rt.alloc();
-    let text = b"(".to_vec(alloc)?;
-    let tokens = [token(TokenKind::LeftParen, 0, 1, 0)].to_vec(alloc)?;
-    assert!(rt; are_sound(text.as_slice(), tokens.as_slice()));
-    let source = Source::of(text, tokens);
-    let Err(fault) = size_level(alloc, &source, 0, 0, 1, 64) else {
-        assert!(rt; false);
-        return Ok(());
-    };
-    assert_eq!(rt; fault, Fault::Refused(0, Cause::TooDeep));
+    let text = b"-module(m).\n-export([main/0]).\nmain() -> <<1,";
+    let fault = told(alloc, text.as_slice())?;
+    assert_eq!(rt; fault.as_str(), "3:15: syntax");
+    Ok(())
+}
+
+#[test]
+fn a_bracket_too_many_is_told_where_it_stands(rt: HostRuntime) -> Result<(), Fail> {
+    let alloc = rt.alloc();
+    let text =
+        b"-module(m).\n-export([main/0]).\nmain() -> (((((((((((((((((((((((((((((((((((((((((((((((((((((((((((((((((1";
+    let fault = told(alloc, text.as_slice())?;
+    assert_eq!(rt; fault.as_str(), "3:75: too deep");
+    Ok(())
+}
+
+#[test]
+fn a_fault_of_tokens_comes_first(rt: HostRuntime) -> Result<(), Fail> {
+    let alloc = rt.alloc();
+    let text =
+        b"-module m.\n-export([main/0]).\nmain() -> 170141183460469231731687303715884105728.";
+    let fault = told(alloc, text.as_slice())?;
+    assert_eq!(rt; fault.as_str(), "3:11: integer too wide");
+    Ok(())
+}
+
+#[test]
+fn forms_are_refused_at_their_first_wrong_token(rt: HostRuntime) -> Result<(), Fail> {
+    let alloc = rt.alloc();
+    let rows = [
+        ("-define(x).", "1:2: unknown attribute"),
+        ("-if(x).", "1:2: syntax"),
+        ("-'module'(m).", "a module"),
+        ("-module(m)", "1:11: syntax"),
+        ("-export([f/X]).", "1:12: syntax"),
+        ("-spec f(", "1:9: syntax"),
+        ("", "a module"),
+    ];
+    for (text, wanted) in rows {
+        let fault = told(alloc, text.as_bytes())?;
+        assert_eq!(rt; fault.as_str(), wanted);
+    }
     Ok(())
 }

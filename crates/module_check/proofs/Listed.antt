@@ -1,5 +1,5 @@
 -- `BUILT_INS` has every built-in function.
-use Rattle.std.proofs.Common.{ℕ, List, [], ◌∷◌, Option, Some, None, refl, lit<}
+use Rattle.std.proofs.Common.{Bool, true, false, MatchBool, ℕ, List, [], ◌∷◌, Option, Some, None, refl, lit<}
 use Rattle.std.specs.List.{Contains}
 use Rattle.std.specs.Option.{MatchOption}
 use Rattle.erl_syntax.specs.BuiltIns.{Is}
@@ -48,3 +48,7 @@ listed b.Reverse = (33, lit< tt, refl)
 pub among_all : (name : List ℕ) (arity : ℕ) (r : Option BuiltIn) → MatchOption r ((f : BuiltIn) → Contains all f → Is name arity f → ⊥) (Is name arity) → MatchOption r ((f : BuiltIn) → Is name arity f → ⊥) (Is name arity)
 among_all name arity None h = λ f is. h f (listed f) is
 among_all name arity (Some f) h = h
+
+pub any_listed : (P : BuiltIn → Type 0) (r : Bool) → MatchBool r ((f : BuiltIn) × (Contains all f × P f)) ((f : BuiltIn) → Contains all f → P f → ⊥) → MatchBool r ((f : BuiltIn) × P f) ((f : BuiltIn) × P f → ⊥)
+any_listed P true h = (h.0, h.1.1)
+any_listed P false h = λ k. h k.0 (listed k.0) k.1

@@ -1,0 +1,6 @@
+pub mod Faults
+pub mod Nodes
+pub mod Order
+pub mod Spots
+pub mod Tasks
+pub mod Unsafe

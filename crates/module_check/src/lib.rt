@@ -2,10 +2,22 @@
 #![tactic(auto)]
 
 mod built_ins;
+mod calls;
+mod checking;
+mod forms;
 mod names;
+mod order;
+mod own;
+mod scopes;
+mod targets;
+mod tasks;
+mod walk;
 
 pub use built_ins::built_in;
+pub use calls::is_spelled;
+pub use checking::{Checked, check};
 pub use names::{has_function, is_before, is_exported};
+pub use order::first_of;
 
 #[cfg(test)]
 mod tests;

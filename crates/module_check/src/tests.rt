@@ -1,5 +1,8 @@
-use crate::{built_in, has_function, is_before, is_exported};
-use erl_syntax::{BUILT_INS, BuiltIn, Function, Listed, Module, Name, Span};
+use crate::{built_in, check, has_function, is_before, is_exported};
+use erl_syntax::{
+    BUILT_INS, BuiltIn, CheckCause, CheckFault, Clause, Expr, Function, Guard, Head, Item, Listed,
+    Module, Name, Span, Text,
+};
 use std::alloc::{AllocError, Global};
 use std::test::Fail;
 
@@ -59,5 +62,95 @@ fn names_are_looked_up_with_their_arity(rt: HostRuntime) -> Result<(), Fail> {
     assert_eq!(rt; is_before(first, second), true);
     assert_eq!(rt; is_before(second, first), false);
     assert_eq!(rt; is_before(first, first), false);
+    Ok(())
+}
+
+const AT: Span = Span { line: 2, column: 1 };
+
+/// A module `m` that exports `main/0`, whose only clause has these expressions as its body.
+fn with_body(alloc: Global, values: Vec<Expr>) -> Result<Module, AllocError> {
+    let mut body = Vec::new(alloc);
+    for value in values {
+        body.push(Item {
+            patterns: Listed::of(Vec::new(alloc)),
+            value,
+        })?;
+    }
+    let clause = Clause {
+        at: AT,
+        name: 0,
+        patterns: Listed::of(Vec::new(alloc)),
+        guard: Guard {
+            alternatives: Listed::of(Vec::new(alloc)),
+        },
+        body: Listed::of(body),
+    };
+    let function = Function {
+        name: 0,
+        arity: 0,
+        clauses: Listed::of(vec![in alloc; clause]?),
+    };
+    let head = Head { at: AT, name: 1 };
+    let export = Name {
+        at: AT,
+        name: 0,
+        arity: 0,
+    };
+    let main = Text::of(b"main".to_vec(alloc)?);
+    let m = Text::of(b"m".to_vec(alloc)?);
+    Ok(Module {
+        heads: Listed::of(vec![in alloc; head]?),
+        exports: Listed::of(vec![in alloc; export]?),
+        functions: Listed::of(vec![in alloc; function]?),
+        atoms: Listed::of(vec![in alloc; main, m]?),
+        last: Span { line: 9, column: 1 },
+    })
+}
+
+fn variable(alloc: Global, line: u32) -> Result<Expr, AllocError> {
+    Ok(Expr::Var {
+        at: Span { line, column: 5 },
+        name: Text::of(b"X".to_vec(alloc)?),
+    })
+}
+
+#[test]
+fn a_module_without_faults_is_accepted(rt: HostRuntime) -> Result<(), Fail> {
+    let alloc = rt.alloc();
+    let value = Expr::Int { at: AT, value: 1 };
+    let tree = with_body(alloc, vec![in alloc; value]?)?;
+    let checked = check(alloc, tree);
+    assert!(rt; checked.is_ok());
+    Ok(())
+}
+
+#[test]
+fn a_variable_without_a_value_is_refused(rt: HostRuntime) -> Result<(), Fail> {
+    let alloc = rt.alloc();
+    let body = vec![in alloc; variable(alloc, 4)?, variable(alloc, 3)?]?;
+    let fault = check(alloc, with_body(alloc, body)?).err();
+    let wanted = CheckFault {
+        span: Span { line: 3, column: 5 },
+        why: CheckCause::UnboundVariable,
+    };
+    assert_eq!(rt; fault, Some(wanted));
+    Ok(())
+}
+
+#[test]
+fn a_call_of_no_function_is_refused(rt: HostRuntime) -> Result<(), Fail> {
+    let alloc = rt.alloc();
+    let call = Expr::Call {
+        at: AT,
+        module: Listed::of(Vec::new(alloc)),
+        name: 1,
+        args: Listed::of(Vec::new(alloc)),
+    };
+    let fault = check(alloc, with_body(alloc, vec![in alloc; call]?)?).err();
+    let wanted = CheckFault {
+        span: AT,
+        why: CheckCause::UndefinedFunction,
+    };
+    assert_eq!(rt; fault, Some(wanted));
     Ok(())
 }

@@ -1,9 +1,9 @@
 use Rattle.std.proofs.Common.{arith, rules, ◌∙◌, sym, ap, ◌++◌, ◌+◌, drop, subst, List}
 use Rattle.std.specs.Prelude.{All}
-use Rattle.clause_read.specs.declared.source.Numbered.{Numbered}
+use Rattle.pattern_read.specs.declared.source.Numbered.{Numbered}
 use Rattle.std.proofs.lemmas.List.Elements.{All-push}
 use Rattle.erl_syntax.specs.Atoms.{fixed_atoms}
-use Rattle.clause_read.specs.Source.{IsSound, words}
+use Rattle.pattern_read.specs.Source.{IsSound, words}
 use Rattle.clause_read.specs.Numbering.{words_after}
 use Rattle.clause_read.proofs.Numbers.{table_next, words_next, words_done}
 use Rattle.clause_read.proofs.numbering.number.Goals as goal

@@ -2,7 +2,7 @@ use Rattle.std.proofs.Common.{◌≡◌, ◌≤◌, ◌+◌, ◌++◌, drop, len
 use Rattle.std.specs.Prelude.{All}
 use Rattle.erl_syntax.specs.Atoms.{fixed_atoms}
 use Rattle.erl_syntax.specs.Reading.{after_tokens}
-use Rattle.clause_read.specs.Source.{IsSound, words}
+use Rattle.pattern_read.specs.Source.{IsSound, words}
 use Rattle.clause_read.specs.Numbering.{words_after}
 use Rattle.clause_read.proofs.numbering.number.Given as goal
 

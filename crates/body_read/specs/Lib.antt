@@ -1,0 +1,4 @@
+pub mod Settings
+pub mod WantedExprs
+pub mod WantedItems
+pub mod WantedSegments

@@ -1,0 +1,267 @@
+ghost use Rattle.std.specs.Prelude.{◌≡◌, ◌≤◌, ◌<◌, ◌+◌, ◌^◌, ◌∷◌, ◌↔◌, [], length, drop, IsTrue, IfErr, IfOk, OnSome, MatchOption};
+ghost use Rattle.pattern_read.specs.Reading.{Gives, closed};
+ghost use Rattle.body_read.specs.Settings.{FirstIn, IsBlock, MayStand, NoneIn, OperatorIn, begins_block, begins_guard, begins_in};
+ghost use Rattle.pattern_read.specs.Wanted.{Closes, exprs_in, extends, joined, level_in, tail_in};
+ghost use Rattle.body_read.specs.WantedExprs.{in_setting};
+ghost use Rattle.pattern_read.specs.declared.fault.Fault.TheVariants.{Memory};
+
+use crate::operand::operand;
+use crate::setting::Setting;
+use erl_syntax::{Expr, Listed, Op, TokenKind};
+use pattern_read::fault::{Cause, Fault};
+use pattern_read::operators::{level as level_of, operator, right_of};
+use pattern_read::placed::{Placed, higher};
+use pattern_read::source::Source;
+use std::alloc::Global;
+
+/// Whether a block begins so: a `case`, a `receive` or an `if`.
+fn begins_block(kind: TokenKind) -> bool
+    ensures { result ≡ begins_block kind }
+{
+    matches!(kind, TokenKind::Case | TokenKind::Receive | TokenKind::If)
+}
+
+/// Whether a block begins so where blocks may stand.
+pub fn is_block(kind: TokenKind, setting: Setting) -> bool
+    ensures { IsTrue result ↔ IsBlock setting kind }
+{
+    match setting {
+        Setting::Body => begins_block(kind),
+        Setting::Guard => false,
+    }
+}
+
+/// Whether an expression of a guard begins so.
+fn begins_guard(kind: TokenKind) -> bool
+    ensures { result ≡ begins_guard kind }
+{
+    matches!(
+        kind,
+        TokenKind::Plus
+            | TokenKind::Minus
+            | TokenKind::Bnot
+            | TokenKind::Not
+            | TokenKind::Atom
+            | TokenKind::Question
+            | TokenKind::LeftBrace
+            | TokenKind::LeftBracket
+            | TokenKind::Variable
+            | TokenKind::Integer
+            | TokenKind::Character
+            | TokenKind::Str
+            | TokenKind::LeftBits
+            | TokenKind::LeftParen
+    )
+}
+
+/// Whether an expression begins so.
+fn begins(kind: TokenKind, setting: Setting) -> bool
+    ensures { result ≡ begins_in setting kind }
+{
+    match setting {
+        Setting::Body => begins_block(kind) || begins_guard(kind),
+        Setting::Guard => begins_guard(kind),
+    }
+}
+
+/// Why no expression stands where it would be too deep.
+pub fn cause_of_first(source: &Source, at: usize, setting: Setting) -> Cause
+    requires { at ≤ length source.now }
+    ensures { FirstIn setting (drop at source.now) result }
+{
+    let Some(numbered) = source.token(at) else {
+        return Cause::Syntax;
+    };
+    if begins(numbered.token.kind, setting) {
+        Cause::TooDeep
+    } else {
+        Cause::Syntax
+    }
+}
+
+/// Whether an operator may stand there: in a guard any but `!`.
+fn may_stand(op: Op, setting: Setting) -> bool
+    ensures { IsTrue result ↔ MayStand setting op }
+{
+    match setting {
+        Setting::Body => true,
+        Setting::Guard => op != Op::Send,
+    }
+}
+
+/// The operator of that level at that place, where one may stand.
+fn operator_at(source: &Source, at: usize, wanted: usize, setting: Setting) -> Option<Op>
+    requires { at ≤ length source.now }
+    ensures operator { MatchOption result (NoneIn setting wanted (drop at source.now)) (λ op. OperatorIn setting source.now at wanted op) }
+    ensures within { OnSome result (at < length source.now) }
+    ensures short { length source.now < 2 ^ 64 }
+{
+    let Some(numbered) = source.token(at) else {
+        return None;
+    };
+    let Some(op) = operator(numbered.token.kind) else {
+        return None;
+    };
+    if level_of(op) == wanted && may_stand(op, setting) {
+        Some(op)
+    } else {
+        None
+    }
+}
+
+/// An operator between two parts.
+fn binary(
+    alloc: Global,
+    op: Op,
+    left: Placed<Expr>,
+    right: Placed<Expr>,
+) -> Result<Placed<Expr>, Fault>
+    requires left { left.height ≤ 256 }
+    requires right { right.height ≤ 256 }
+    ensures joined { IfOk result (λ r. r ≡ joined left op right) }
+    ensures memory { IfErr result (λ e. e ≡ Memory) }
+{
+    let height = higher(left.height, right.height) + 1;
+    let parts = vec![in alloc; left.tree, right.tree]?;
+    let tree = Expr::Binary {
+        at: left.at,
+        op,
+        parts: Listed::of(parts),
+    };
+    Ok(Placed {
+        at: left.at,
+        tree,
+        height,
+    })
+}
+
+/// A list of one expression.
+pub fn one(alloc: Global, part: Expr) -> Result<Listed<Expr>, Fault>
+    ensures list { IfOk result (λ r. r ≡ part ∷ []) }
+    ensures memory { IfErr result (λ e. e ≡ Memory) }
+{
+    Ok(Listed::of(vec![in alloc; part]?))
+}
+
+/// An expression of a level: 0 to 5 are the binary operators from the one that binds least, 6 an operand.
+#[cycle(expr)]
+pub fn level(
+    alloc: Global,
+    source: &Source,
+    at: usize,
+    wanted: usize,
+    setting: Setting,
+    deep: usize,
+    brackets: usize,
+) -> Result<(Placed<Expr>, usize), Fault>
+    requires place { at ≤ length source.now }
+    requires tree { deep ≤ 256 }
+    requires bracket { brackets ≤ 64 }
+    requires low { wanted ≤ 6 }
+    ensures reads { Gives (extends wanted) (level_in wanted (in_setting setting deep brackets)) source.now at result }
+    ensures further { IfOk result (λ r. at < r.1 × (r.1 ≤ length source.now)) }
+    ensures bounded { IfOk result (λ r. (1 ≤ r.0.height) × (deep + r.0.height ≤ 257)) }
+{
+    if wanted == 6 {
+        return operand(alloc, source, at, setting, deep, brackets);
+    }
+    let (first, after) = level(alloc, source, at, wanted + 1, setting, deep, brackets)?;
+    let place = first.at;
+    let ((tree, height), next) = tail(
+        alloc, source, after, wanted, setting, deep, brackets, first,
+    )?;
+    Ok((
+        Placed {
+            at: place,
+            tree,
+            height,
+        },
+        next,
+    ))
+}
+
+/// What stands at a level behind its first operand.
+#[cycle(expr)]
+pub fn tail(
+    alloc: Global,
+    source: &Source,
+    at: usize,
+    wanted: usize,
+    setting: Setting,
+    deep: usize,
+    brackets: usize,
+    left: Placed<Expr>,
+) -> Result<((Expr, usize), usize), Fault>
+    requires place { at ≤ length source.now }
+    requires tree { deep ≤ 256 }
+    requires bracket { brackets ≤ 64 }
+    requires low { wanted < 6 }
+    requires tall { 1 ≤ left.height }
+    requires height { deep + left.height ≤ 257 }
+    ensures reads { Gives (extends wanted) (tail_in wanted (in_setting setting deep brackets) left) source.now at result }
+    ensures further { IfOk result (λ r. at ≤ r.1 × (r.1 ≤ length source.now)) }
+    ensures bounded { IfOk result (λ r. (1 ≤ r.0.1) × (deep + r.0.1 ≤ 257)) }
+{
+    let Some(op) = operator_at(source, at, wanted, setting) else {
+        return Ok(((left.tree, left.height), at));
+    };
+    if deep + left.height > 256 {
+        return Err(Fault::Refused(at, Cause::TooDeep));
+    }
+    let (right, next) = level(
+        alloc,
+        source,
+        at + 1,
+        right_of(wanted),
+        setting,
+        deep + 1,
+        brackets,
+    )?;
+    let joined = binary(alloc, op, left, right)?;
+    if wanted < 4 {
+        return Ok(((joined.tree, joined.height), next));
+    }
+    tail(alloc, source, next, wanted, setting, deep, brackets, joined)
+}
+
+/// Expressions up to a closing bracket.
+#[cycle(expr)]
+pub fn exprs(
+    alloc: Global,
+    source: &Source,
+    at: usize,
+    setting: Setting,
+    deep: usize,
+    brackets: usize,
+    close: TokenKind,
+) -> Result<((Listed<Expr>, usize), usize), Fault>
+    requires place { at ≤ length source.now }
+    requires tree { deep ≤ 257 }
+    requires bracket { brackets ≤ 64 }
+    requires closes { Closes close }
+    ensures reads { Gives closed (exprs_in close (in_setting setting deep brackets)) source.now at result }
+    ensures further { IfOk result (λ r. at < r.1 × (r.1 ≤ length source.now)) }
+    ensures bounded { IfOk result (λ r. deep + r.0.1 ≤ 257) }
+{
+    let mut items = Vec::new(alloc);
+    if source.is(at, close) {
+        return Ok(((Listed::of(items), 0), at + 1));
+    }
+    if deep > 256 {
+        return Err(Fault::Refused(at, cause_of_first(source, at, setting)));
+    }
+    let mut height = 0;
+    let mut next = at;
+    loop {
+        let (item, after) = level(alloc, source, next, 0, setting, deep, brackets)?;
+        items.push(item.tree)?;
+        height = higher(height, item.height);
+        if source.is(after, close) {
+            return Ok(((Listed::of(items), height), after + 1));
+        }
+        if !source.is(after, TokenKind::Comma) {
+            return Err(Fault::Refused(after, Cause::Syntax));
+        }
+        next = after + 1;
+    }
+}

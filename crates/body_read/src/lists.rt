@@ -1,0 +1,168 @@
+ghost use Rattle.std.specs.Prelude.{◌≤◌, ◌<◌, ◌+◌, drop, length, IfOk};
+ghost use Rattle.erl_syntax.specs.declared.token.TokenKind.TheVariants as k;
+ghost use Rattle.pattern_read.specs.Reading.{Gives, closed};
+ghost use Rattle.body_read.specs.WantedExprs.{in_setting, list_in, mode_of};
+ghost use Rattle.body_read.specs.WantedSegments.{NoRow, after_first_in, last_in};
+
+use crate::exprs::{cause_of_first, level};
+use crate::quals::quals;
+use crate::segments::is_row;
+use crate::setting::Setting;
+use erl_syntax::{Expr, Listed, Span, TokenKind};
+use pattern_read::fault::{Cause, Fault};
+use pattern_read::placed::{Placed, higher};
+use pattern_read::source::{Source, mark};
+use std::alloc::Global;
+
+/// A list or a list comprehension, behind `[`.
+#[cycle(expr)]
+pub fn list(
+    alloc: Global,
+    source: &Source,
+    at: usize,
+    setting: Setting,
+    deep: usize,
+    brackets: usize,
+    place: Span,
+) -> Result<((Expr, usize), usize), Fault>
+    requires place { at ≤ length source.now }
+    requires tree { deep ≤ 256 }
+    requires bracket { brackets < 64 }
+    ensures reads { Gives closed (list_in (in_setting setting deep brackets) place) source.now at result }
+    ensures further { IfOk result (λ r. at < r.1 × (r.1 ≤ length source.now)) }
+    ensures bounded { IfOk result (λ r. (1 ≤ r.0.1) × (deep + r.0.1 ≤ 257)) }
+{
+    if source.is(at, TokenKind::RightBracket) {
+        let items = Listed::of(Vec::new(alloc));
+        let tail = Listed::of(Vec::new(alloc));
+        let tree = Expr::List {
+            at: place,
+            items,
+            tail,
+        };
+        return Ok(((tree, 1), at + 1));
+    }
+    if deep >= 256 {
+        return Err(Fault::Refused(at, cause_of_first(source, at, setting)));
+    }
+    let (first, next) = level(alloc, source, at, 0, setting, deep + 1, brackets + 1)?;
+    after_first(alloc, source, next, setting, deep, brackets, place, first)
+}
+
+/// A list or a list comprehension, behind its first item.
+#[cycle(expr)]
+fn after_first(
+    alloc: Global,
+    source: &Source,
+    at: usize,
+    setting: Setting,
+    deep: usize,
+    brackets: usize,
+    place: Span,
+    first: Placed<Expr>,
+) -> Result<((Expr, usize), usize), Fault>
+    requires place { at ≤ length source.now }
+    requires tree { deep < 256 }
+    requires bracket { brackets < 64 }
+    requires tall { 1 ≤ first.height }
+    requires height { deep + first.height ≤ 256 }
+    ensures reads { Gives closed (after_first_in (in_setting setting deep brackets) place first) source.now at result }
+    ensures further { IfOk result (λ r. at < r.1 × (r.1 ≤ length source.now)) }
+    ensures bounded { IfOk result (λ r. (1 ≤ r.0.1) × (deep + r.0.1 ≤ 257)) }
+{
+    if !is_row(source, at, setting) {
+        return list_items(alloc, source, at, setting, deep, brackets, place, first);
+    }
+    let ((quals, height), next) = quals(
+        alloc,
+        source,
+        at + 1,
+        deep + 1,
+        brackets + 1,
+        TokenKind::RightBracket,
+    )?;
+    let highest = higher(first.height, height) + 1;
+    let row = Listed::of(vec![in alloc; first.tree]?);
+    let tree = Expr::ListFor {
+        at: place,
+        row,
+        quals,
+    };
+    Ok(((tree, highest), next))
+}
+
+/// A list behind its first item: more items and the tail, up to `]`.
+#[cycle(expr)]
+fn list_items(
+    alloc: Global,
+    source: &Source,
+    at: usize,
+    setting: Setting,
+    deep: usize,
+    brackets: usize,
+    place: Span,
+    first: Placed<Expr>,
+) -> Result<((Expr, usize), usize), Fault>
+    requires place { at ≤ length source.now }
+    requires tree { deep < 256 }
+    requires bracket { brackets < 64 }
+    requires tall { 1 ≤ first.height }
+    requires height { deep + first.height ≤ 256 }
+    requires row { NoRow (mode_of setting) (drop at source.now) }
+    ensures reads { Gives closed (after_first_in (in_setting setting deep brackets) place first) source.now at result }
+    ensures further { IfOk result (λ r. at < r.1 × (r.1 ≤ length source.now)) }
+    ensures bounded { IfOk result (λ r. (1 ≤ r.0.1) × (deep + r.0.1 ≤ 257)) }
+{
+    let mut height = first.height;
+    let mut items = vec![in alloc; first.tree]?;
+    let mut next = at;
+    loop {
+        if source.is(next, TokenKind::RightBracket) {
+            let tree = Expr::List {
+                at: place,
+                items: Listed::of(items),
+                tail: Listed::of(Vec::new(alloc)),
+            };
+            return Ok(((tree, height + 1), next + 1));
+        }
+        if source.is(next, TokenKind::Bar) {
+            let (last, after) = last(alloc, source, next + 1, setting, deep + 1, brackets + 1)?;
+            let highest = higher(height, last.height) + 1;
+            let tree = Expr::List {
+                at: place,
+                items: Listed::of(items),
+                tail: Listed::of(vec![in alloc; last.tree]?),
+            };
+            return Ok(((tree, highest), after));
+        }
+        if !source.is(next, TokenKind::Comma) {
+            return Err(Fault::Refused(next, Cause::Syntax));
+        }
+        let (item, after) = level(alloc, source, next + 1, 0, setting, deep + 1, brackets + 1)?;
+        items.push(item.tree)?;
+        height = higher(height, item.height);
+        next = after;
+    }
+}
+
+/// The tail of a list and `]`.
+#[cycle(expr)]
+fn last(
+    alloc: Global,
+    source: &Source,
+    at: usize,
+    setting: Setting,
+    deep: usize,
+    brackets: usize,
+) -> Result<(Placed<Expr>, usize), Fault>
+    requires place { at ≤ length source.now }
+    requires tree { deep ≤ 256 }
+    requires bracket { brackets ≤ 64 }
+    ensures reads { Gives closed (last_in k.RightBracket (in_setting setting deep brackets)) source.now at result }
+    ensures further { IfOk result (λ r. at < r.1 × (r.1 ≤ length source.now)) }
+    ensures bounded { IfOk result (λ r. (1 ≤ r.0.height) × (deep + r.0.height ≤ 257)) }
+{
+    let (tail, after) = level(alloc, source, at, 0, setting, deep, brackets)?;
+    let (_, next) = mark(source, after, TokenKind::RightBracket)?;
+    Ok((tail, next))
+}

@@ -1,0 +1,140 @@
+-- The module that a text spells, and the fault of a text that spells none.
+use Rattle.std.proofs.Common.{◌≡◌, ℕ, ◌≤◌, ◌<◌, ◌⊎◌, inl, inr, List, [], ◌∷◌, ◌++◌, length, drop, Option, Some, None, refl, sym, ap, subst, ◌∙◌, arith, append-nil}
+use Rattle.std.proofs.lemmas.List.{length-map}
+use Rattle.erl_syntax.specs.declared.span.Span.{Span}
+use Rattle.erl_syntax.specs.declared.token.Token.{Token}
+use Rattle.erl_syntax.specs.declared.token.LexFault.{LexFault}
+use Rattle.erl_syntax.specs.declared.token.LexCause.{LexCause}
+use Rattle.erl_syntax.specs.declared.token.LexCause.TheVariants.{NoMemory}
+use Rattle.erl_syntax.specs.declared.module.Head.{Head}
+use Rattle.erl_syntax.specs.declared.module.Name.{Name}
+use Rattle.erl_syntax.specs.declared.module.Function.{Function}
+use Rattle.erl_syntax.specs.declared.module.Module.{Module}
+use Rattle.erl_syntax.specs.Word.{Word}
+use Rattle.erl_syntax.specs.Tokens.{Lexes, place}
+use Rattle.erl_syntax.specs.Reading.{Reads, longest_text, atoms_of, words_of, word_of}
+use Rattle.erl_syntax.specs.Grammar.{Goal, Spells, ends, strict}
+use Rattle.erl_tokens.specs.Cutting.{IsFault}
+use Rattle.pattern_read.specs.declared.fault.Fault.{Fault}
+use Rattle.pattern_read.specs.declared.fault.Cause.{Cause}
+use Rattle.pattern_read.specs.declared.fault.Cause.TheVariants.{Syntax, TooDeep, UnknownAttribute, UnknownSegmentType, Undecided}
+use Rattle.clause_read.specs.declared.forms.ModuleForms.{ModuleForms}
+use Rattle.clause_read.specs.declared.read.ReadFault.{ReadFault}
+use Rattle.clause_read.specs.declared.read.ReadCause.{ReadCause}
+use Rattle.clause_read.specs.declared.read.ReadCause.TheVariants as r
+use Rattle.pattern_read.specs.declared.source.Numbered.{Numbered}
+use Rattle.pattern_read.specs.Source.{words}
+use Rattle.pattern_read.specs.Reading.{Passes, IsRefused, IsWide, IsStrict, Stops, SameHead, Follows, nothing}
+use Rattle.clause_read.specs.WantedForms.{anything, forms_in}
+use Rattle.clause_read.specs.ReadText.{IsReadFault, memory, too_long, of_token, of_word, fault_at, place_in, told, told_of_token}
+
+abbrev pub module_with : ModuleForms → List (List ℕ) → Span → Module
+module_with fs atoms last = record { heads = fs.heads; exports = fs.exports; functions = fs.functions; atoms = atoms; last = last }
+
+abbrev forms_of : Module → ModuleForms
+forms_of m = record { heads = m.heads; exports = m.exports; functions = m.functions }
+
+-- a text has one list of tokens
+abbrev pub OneReading : Type 0
+OneReading = (text : List ℕ) (s t : List Token) (f g : Option LexFault) → Lexes text s f → Lexes text t g → (s ≡ t) × (f ≡ g)
+
+nothing_follows : Follows strict anything []
+nothing_follows t w h d = elim d [ ]
+
+wide : IsWide strict
+wide = record { trees = omega arith; brackets = omega arith }
+
+same_head : (w : List Word) → SameHead w w
+same_head [] = tt
+same_head (j ∷ w) = refl
+
+spells_whole : (ws : List Word) (fs : ModuleForms) → Passes anything forms_in ws nothing [] (λ u. fs) → Spells strict (forms_in fs) ws
+spells_whole ws fs p = let P : List Word → Type 0 = λ w. Spells strict (forms_in fs) w in subst P (sym p.whole) (p.back strict wide tt [] [] ends)
+
+pub module_read : (text : List ℕ) (tokens : List Token) (ws : List Word) (atoms : List (List ℕ)) (fs : ModuleForms) (last : Span) (m : Module) → length text ≤ longest_text → Lexes text tokens None →
+    atoms ≡ atoms_of text tokens → ws ≡ words_of text (atoms_of text tokens) tokens → Passes anything forms_in ws nothing [] (λ u. fs) → last ≡ place text (length text) → m ≡ module_with fs atoms last → Reads text m
+module_read text tokens ws atoms fs last m h d a w p l e =
+    let P : List Word → Type 0 = λ v. Spells strict (forms_in fs) v in
+    let Q : List (List ℕ) → Type 0 = λ t. Spells strict (forms_in fs) (words_of text t tokens) in
+    let R : Module → Type 0 = λ n. Reads text n in
+    subst R (sym e) (record { short = h; tokens = tokens; lexes = d; atoms = a; spells = subst Q (sym a) (subst P w (spells_whole ws fs p)); last = l })
+
+-- the words that another reading of the text spells
+spells_other : (text : List ℕ) (tokens : List Token) (m : Module) → (r : Reads text m) → r.tokens ≡ tokens → Spells strict (forms_in (forms_of m)) (words_of text (atoms_of text tokens) tokens)
+spells_other text tokens m r e =
+    let P : List (List ℕ) → Type 0 = λ t. Spells strict (forms_in (forms_of m)) (words_of text t r.tokens) in
+    let Q : List Token → Type 0 = λ ts. Spells strict (forms_in (forms_of m)) (words_of text (atoms_of text ts) ts) in
+    subst Q e (subst P r.atoms r.spells)
+
+module_made : (m : Module) (fs : ModuleForms) (atoms : List (List ℕ)) (last : Span) → forms_of m ≡ fs → m.atoms ≡ atoms → m.last ≡ last → m ≡ module_with fs atoms last
+module_made m fs atoms last e a l =
+    ap (λ v. module_with v m.atoms m.last) e ∙ ap (λ v. module_with fs v m.last) a ∙ ap (λ v. module_with fs atoms v) l
+
+pub module_only : OneReading → (text : List ℕ) (tokens : List Token) (ws : List Word) (atoms : List (List ℕ)) (fs : ModuleForms) (last : Span) (m : Module) → Lexes text tokens None →
+    atoms ≡ atoms_of text tokens → ws ≡ words_of text (atoms_of text tokens) tokens → Passes anything forms_in ws nothing [] (λ u. fs) → last ≡ place text (length text) → m ≡ module_with fs atoms last →
+    (other : Module) → Reads text other → other ≡ m
+module_only one text tokens ws atoms fs last m d a w p l e other r =
+    let same : r.tokens ≡ tokens = (one text r.tokens tokens None None r.lexes d).0 in
+    let P : List Word → Type 0 = λ v. Spells strict (forms_in (forms_of other)) v in
+    let spelled : Spells strict (forms_in (forms_of other)) (p.front ++ []) = subst P (sym w ∙ p.whole) (spells_other text tokens other r same) in
+    let found = p.forth strict (forms_of other) [] [] nothing_follows tt spelled in
+    module_made other fs atoms last found.1 (r.atoms ∙ ap (atoms_of text) same ∙ sym a) (r.last ∙ sym l) ∙ sym e
+
+-- ---- Faults
+
+stops_strict : (why : Cause) → Stops why strict
+stops_strict Syntax = tt
+stops_strict TooDeep = record { trees = refl; brackets = refl; any_attribute = refl; any_type = refl }
+stops_strict UnknownAttribute = refl
+stops_strict UnknownSegmentType = refl
+stops_strict Undecided = record { trees = refl; brackets = refl; any_attribute = refl; any_type = refl }
+
+pub word_none : OneReading → (text : List ℕ) (tokens : List Token) (ws rest : List Word) (why : Cause) → Lexes text tokens None → ws ≡ words_of text (atoms_of text tokens) tokens → IsRefused anything forms_in ws rest why →
+    (m : Module) → Reads text m → ⊥
+word_none one text tokens ws rest why d w p m r =
+    let same : r.tokens ≡ tokens = (one text r.tokens tokens None None r.lexes d).0 in
+    let P : List Word → Type 0 = λ v. Spells strict (forms_in (forms_of m)) v in
+    let spelled : Spells strict (forms_in (forms_of m)) (p.front ++ rest) = subst P (sym w ∙ p.whole) (spells_other text tokens m r same) in
+    p.stops strict (stops_strict why) (forms_of m) [] rest nothing_follows (same_head rest) spelled
+
+pub word_fault : (text : List ℕ) (tokens : List Token) (ws rest : List Word) (why : Cause) (place_is : Span) (fault : ReadFault) → length text ≤ longest_text → Lexes text tokens None → ws ≡ words_of text (atoms_of text tokens) tokens →
+    IsRefused anything forms_in ws rest why → place_is ≡ place_in (place text (length text)) rest → fault ≡ fault_at place_is (told why) → IsReadFault text fault
+word_fault text tokens ws rest why at fault h d w p l e =
+    let P : List Word → Type 0 = λ v. IsRefused anything forms_in v rest why in
+    of_word tokens rest why h d (subst P w p) (e ∙ ap (λ v. fault_at v (told why)) l)
+
+pub long_none : (text : List ℕ) → longest_text < length text → (m : Module) → Reads text m → ⊥
+long_none text h m r = let s : length text ≤ longest_text = r.short in omega (arith, h, s)
+
+some_no_none : {x : LexFault} → (let P : Option LexFault = Some x in P) ≡ None → ⊥
+some_no_none e = cc
+
+token_cause : (cause : LexCause) → (cause ≡ NoMemory) ⊎ (told_of_token cause ≡ r.Token cause)
+token_cause NoMemory = inl refl
+token_cause _ = inr refl
+
+pub token_fault : (text : List ℕ) (first : LexFault) (fault : ReadFault) → length text ≤ longest_text → IsFault text first → fault ≡ fault_at first.at (told_of_token first.why) → IsReadFault text fault
+token_fault text first fault h (inl m) e = memory (ap (λ f. f.why) e ∙ ap told_of_token m)
+token_fault text first fault h (inr d) e = by (token_cause first.why)
+  where
+    by : (first.why ≡ NoMemory) ⊎ (told_of_token first.why ≡ r.Token first.why) → IsReadFault text fault
+    by (inl m) = memory (ap (λ f. f.why) e ∙ ap told_of_token m)
+    by (inr t) = of_token d.0 first h d.1 (e ∙ ap (fault_at first.at) t)
+
+pub token_none : OneReading → (text : List ℕ) (first : LexFault) (fault : ReadFault) → IsFault text first → fault ≡ fault_at first.at (told_of_token first.why) →
+    (fault.why ≡ r.NoMemory) ⊎ ((m : Module) → Reads text m → ⊥)
+token_none one text first fault (inl m) e = inl (ap (λ f. f.why) e ∙ ap told_of_token m)
+token_none one text first fault (inr d) e = inr (λ m r. some_no_none {x = first} (one text d.0 r.tokens (Some first) None d.1 r.lexes).1)
+
+-- the words of a source that has the text and its numbered tokens
+pub source_words : (text copy : List ℕ) (tokens : List Token) (numbered : List Numbered) (all : List Word) → all ≡ words copy numbered → copy ≡ text → words text numbered ≡ words_of text (atoms_of text tokens) tokens →
+    all ≡ words_of text (atoms_of text tokens) tokens
+source_words text copy tokens numbered all e s w = e ∙ ap (λ t. words t numbered) s ∙ w
+
+pub source_short : (text : List ℕ) (tokens : List Token) (all : List Word) (n : ℕ) → all ≡ words_of text (atoms_of text tokens) tokens → length tokens < n → length all < n
+source_short text tokens all n e h = let l : length all ≡ length tokens = ap length e ∙ length-map tokens (word_of text (atoms_of text tokens)) in omega (arith, l, h)
+
+pub refused_place : (text : List ℕ) (tokens same : List Token) (all : List Word) (at : ℕ) (last here : Span) → all ≡ words_of text (atoms_of text tokens) tokens → same ≡ tokens →
+    here ≡ place_in last (drop at (words_of text (atoms_of text tokens) same)) → last ≡ place text (length text) → here ≡ place_in (place text (length text)) (drop at all)
+refused_place text tokens same all at last here w e h l =
+    h ∙ ap (λ ts. place_in last (drop at (words_of text (atoms_of text tokens) ts))) e ∙ ap (λ v. place_in last (drop at v)) (sym w) ∙ ap (λ v. place_in v (drop at all)) l

@@ -1,0 +1,204 @@
+ghost use Rattle.std.specs.Prelude.{◌≡◌, ◌≤◌, ◌<◌, ◌+◌, ◌^◌, ◌⊎◌, ℕ, List, length, drop, IfOk, IfErr};
+ghost use Rattle.erl_syntax.specs.Reading.{Reads, words_of};
+ghost use Rattle.erl_syntax.specs.Tokens.{after, place};
+ghost use Rattle.erl_syntax.specs.Characters.{is_continuation};
+ghost use Rattle.erl_syntax.specs.declared.module.Module.{Module};
+ghost use Rattle.clause_read.specs.ReadText.{IsReadFault, fault_at, place_in, told};
+ghost use Rattle.clause_read.specs.declared.read.ReadCause.TheVariants.{NoMemory};
+
+use crate::forms::{ModuleForms, read_forms};
+use crate::numbering::number;
+use erl_syntax::{LexCause, LexFault, Listed, Module, Span, Text, Token};
+use erl_tokens::{longest_token, one_reading, tokens};
+use pattern_read::fault::{Cause, Fault};
+use pattern_read::source::Source;
+use std::alloc::{AllocError, Global};
+use thiserror::Error;
+
+/// The most bytes that a text may have.
+const LONGEST_TEXT: usize = 1_048_576;
+
+/// Why a text isn't read as a module.
+#[derive(Clone, Copy, Debug, PartialEq, Eq, Error)]
+pub enum ReadCause {
+    /// A text of more than 1,048,576 bytes.
+    #[error("text too long")]
+    TextTooLong,
+    /// A text that has a fault of tokens.
+    #[error("{0}")]
+    Token(LexCause),
+    /// A token with which no module goes on.
+    #[error("syntax")]
+    Syntax,
+    /// A token with which only a deeper module goes on.
+    #[error("too deep")]
+    TooDeep,
+    /// An atom that is the name of no attribute, in the place of one.
+    #[error("unknown attribute")]
+    UnknownAttribute,
+    /// An atom that is no word of a segment's type, in the place of one.
+    #[error("unknown segment type")]
+    UnknownSegmentType,
+    /// No fault of the text: memory ran out.
+    #[error("out of memory")]
+    NoMemory,
+}
+
+/// The first fault of a text that spells no module, or that memory ran out (at 1:1).
+#[derive(Clone, Copy, Debug, PartialEq, Eq)]
+pub struct ReadFault {
+    pub line: u32,
+    pub column: u32,
+    pub why: ReadCause,
+}
+
+impl From<LexFault> for ReadFault {
+    ghost use Rattle.clause_read.specs.ReadText.{fault_at, told_of_token};
+    ghost use Rattle.std.specs.Prelude.{◌≡◌};
+
+    ghost from_gives = { λ f e. e ≡ fault_at f.at (told_of_token f.why) };
+
+    fn from(fault: LexFault) -> ReadFault {
+        let why = match fault.why {
+            LexCause::NoMemory => ReadCause::NoMemory,
+            why => ReadCause::Token(why),
+        };
+        ReadFault {
+            line: fault.at.line,
+            column: fault.at.column,
+            why,
+        }
+    }
+}
+
+impl From<AllocError> for ReadFault {
+    ghost use Rattle.clause_read.specs.declared.read.ReadCause.TheVariants.{NoMemory};
+    ghost use Rattle.std.specs.Prelude.{◌≡◌};
+
+    ghost from_gives = { λ _ e. e.why ≡ NoMemory };
+
+    fn from(_: AllocError) -> ReadFault {
+        ReadFault {
+            line: 1,
+            column: 1,
+            why: ReadCause::NoMemory,
+        }
+    }
+}
+
+/// A refused token's cause as it is told.
+fn told(cause: Cause) -> ReadCause
+    ensures { result ≡ told cause }
+{
+    match cause {
+        Cause::Syntax => ReadCause::Syntax,
+        Cause::TooDeep | Cause::Undecided => ReadCause::TooDeep,
+        Cause::UnknownAttribute => ReadCause::UnknownAttribute,
+        Cause::UnknownSegmentType => ReadCause::UnknownSegmentType,
+    }
+}
+
+/// A fault at that place.
+fn fault_at(at: Span, why: ReadCause) -> ReadFault
+    ensures { result ≡ fault_at at why }
+{
+    ReadFault {
+        line: at.line,
+        column: at.column,
+        why,
+    }
+}
+
+/// The place of the token of that index, or the end of the text.
+fn place_of(tokens: &[Token], at: usize, last: Span) -> Span
+    ensures { (text : List ℕ) (table : List (List ℕ)) → result ≡ place_in last (drop at (words_of text table tokens.now)) }
+{
+    if at < tokens.len() {
+        tokens[at].span
+    } else {
+        last
+    }
+}
+
+/// Whether a byte goes on with a character (RFC 3629, section 3).
+fn is_continuation(b: u8) -> bool
+    ensures { result ≡ is_continuation b }
+{
+    128 <= b && b < 192
+}
+
+/// The place after a byte.
+fn after(b: u8, at: Span) -> Span
+    requires { (at.line < 2 ^ 31) × (at.column < 2 ^ 31) }
+    ensures value { result ≡ after b at }
+    ensures near { (result.line ≤ at.line + 1) × (result.column ≤ at.column + 1) }
+{
+    if b == b'\n' {
+        Span {
+            line: at.line + 1,
+            column: 1,
+        }
+    } else if is_continuation(b) {
+        at
+    } else {
+        Span {
+            line: at.line,
+            column: at.column + 1,
+        }
+    }
+}
+
+/// The place of the end of a text.
+fn end_of(text: &[u8]) -> Span
+    requires { length text.now ≤ 1048576 }
+    ensures { result ≡ place text.now (length text.now) }
+{
+    let mut last = Span { line: 1, column: 1 };
+    for b in text {
+        last = after(*b, last);
+    }
+    last
+}
+
+/// A module of its parts.
+fn module_of(forms: ModuleForms, atoms: Listed<Text>, last: Span) -> Module
+    ensures { result ≡ record { heads = forms.heads; exports = forms.exports; functions = forms.functions; atoms = atoms; last = last } }
+{
+    Module {
+        heads: forms.heads,
+        exports: forms.exports,
+        functions: forms.functions,
+        atoms,
+        last,
+    }
+}
+
+/// The module that a text spells.
+///
+/// # Errors
+///
+/// The text's first fault, with its place and cause, or that memory ran out.
+pub fn read_module(alloc: Global, text: &[u8]) -> Result<Module, ReadFault>
+    ensures module { IfOk result (λ m. Reads text.now m) }
+    ensures only { IfOk result (λ m. (other : Module) → Reads text.now other → other ≡ m) }
+    ensures fault { IfErr result (λ f. IsReadFault text.now f) }
+    ensures none { IfErr result (λ f. (f.why ≡ NoMemory) ⊎ ((m : Module) → Reads text.now m → ⊥)) }
+{
+    if text.len() > LONGEST_TEXT {
+        return Err(fault_at(Span { line: 1, column: 1 }, ReadCause::TextTooLong));
+    }
+    one_reading();
+    longest_token();
+    let found = tokens(alloc, text)?;
+    let (numbered, atoms) = number(alloc, text, found.as_slice())?;
+    let source = Source::of(text.to_vec(alloc)?, numbered);
+    let last = end_of(text);
+    match read_forms(alloc, &source) {
+        Ok(forms) => Ok(module_of(forms, atoms, last)),
+        Err(Fault::Memory) => Err(fault_at(Span { line: 1, column: 1 }, ReadCause::NoMemory)),
+        Err(Fault::Refused(at, why)) => {
+            let place = place_of(found.as_slice(), at, last);
+            Err(fault_at(place, told(why)))
+        }
+    }
+}

@@ -1,0 +1,23 @@
+use Rattle.std.proofs.Common.{sym, [], ◌∷◌, ◌++◌, ap}
+use Rattle.std.proofs.lemmas.Result.{IfOk-weaker}
+use Rattle.erl_syntax.specs.Scopes.{ABody, in_guard, to_match, past_patterns, nothing_known}
+use Rattle.module_check.specs.Spots.{spot, guard_in, patterns_in}
+use Rattle.module_check.specs.Tasks.{Means}
+use Rattle.module_check.proofs.Tasked.{adds_twice, adds_same, means_grown, means_match, means_same, with_none}
+use Rattle.module_check.proofs.Passing.{means_nothing, sees_nothing}
+use Rattle.module_check.proofs.tasks.Walk.push_clause.Goals as goal
+
+pub returns : goal.returns
+returns c = IfOk-weaker c.push.result _ _ (λ u h.
+    let cl = c.args.clause.now in
+    let e = c.items.ensures in
+    let ps = c.items.result.now in
+    let start = means_same _ _ _ _ (sym (with_none (to_match nothing_known))) (means_match _ _ nothing_known (means_nothing c.args.self.now.nodes.items)) in
+    let one = c.in_ok-known.ensures (to_match nothing_known) [] start (sees_nothing c.args.self.now.nodes.items) in
+    let t = past_patterns ps nothing_known in
+    let k : Means c.push_patterns.new.self.nodes.items c.in_ok-known.known t = record { known = one.1.0.known; dangers = one.1.0.dangers; guarded = one.1.0.guarded } in
+    let two = c.in_ok-push_guard.ensures t k in
+    let d = spot t (ABody cl.body) in
+    let three = h d (record { part = ap ABody c.items-body.ensures; means = means_grown _ _ _ _ two.grown k; sizes = tt }) in
+    adds_same _ _ _ _ (ap (λ zs. patterns_in (to_match nothing_known) zs ++ (guard_in (in_guard (past_patterns zs nothing_known)) cl.guard ++ spot (past_patterns zs nothing_known) (ABody cl.body) ∷ [])) e)
+    (adds_twice c.args.self.now c.push_patterns.new.self c.push.new.self _ _ one.0 (adds_twice c.push_patterns.new.self c.push_guard.new.self c.push.new.self _ (d ∷ []) two three))) c.push.ensures

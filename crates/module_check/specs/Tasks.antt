@@ -1,0 +1,73 @@
+-- What is left to look at: parts with what is known where they stand.
+use Rattle.std.specs.Prelude.{◌≡◌, ℕ, List, [], ◌∷◌, ◌++◌, Option, Some, None}
+use Rattle.erl_syntax.specs.Bindings.{Bound, new_names}
+use Rattle.erl_syntax.specs.declared.expr.Expr.{Expr}
+use Rattle.erl_syntax.specs.declared.qual.Qual.{Qual}
+use Rattle.erl_syntax.specs.Scopes
+use Rattle.erl_syntax.specs.Scopes.{Scope, AnExpr, APattern, ABody, ASegment}
+use Rattle.erl_syntax.specs.declared.typing.SideUse.TheVariants as side
+use Rattle.module_check.specs.declared.scopes.Node.{Node}
+use Rattle.module_check.specs.declared.tasks.Part.{Part}
+use Rattle.module_check.specs.declared.tasks.Part.TheVariants as t
+use Rattle.module_check.specs.declared.tasks.Setting.{Setting}
+use Rattle.module_check.specs.declared.tasks.Task.{Task}
+use Rattle.module_check.specs.declared.tasks.Walk.{Walk}
+use Rattle.module_check.specs.Nodes.{Sees, SeesUnsafe, Grown}
+use Rattle.module_check.specs.Spots.{Spot, spot, size_scope}
+
+abbrev pub part_of : Part → Scopes.Part
+part_of (t.Expr e) = AnExpr e.now
+part_of (t.Pattern pt) = APattern pt.now
+part_of (t.Body is) = ABody is.now
+part_of (t.Segment on last sg) = ASegment on last sg.now
+
+-- the setting stands for the scope
+pub record Means (nodes : List Node) (setting : Setting) (s : Scope) : Type 0 where
+  pub known : Sees nodes setting.known s.known
+  pub dangers : SeesUnsafe nodes setting.dangers s.dangers
+  pub guarded : setting.guarded ≡ s.guarded
+
+-- what the sizes in a part of a pattern see
+abbrev pub SeesSizes : List Node → ℕ → Scope → Scopes.Part → Type 0
+SeesSizes nodes last s (AnExpr e) = Unit {0}
+SeesSizes nodes last s (APattern pt) = Sees nodes last s.outer
+SeesSizes nodes last s (ABody is) = Unit {0}
+SeesSizes nodes last s (ASegment side.Build at_end sg) = Unit {0}
+SeesSizes nodes last s (ASegment side.Match at_end sg) = Sees nodes last (size_scope s).known
+SeesSizes nodes last s (ASegment side.Generator at_end sg) = Sees nodes last (size_scope s).known
+
+pub record Fits (nodes : List Node) (task : Task) (d : Spot) : Type 0 where
+  pub part : part_of task.part ≡ d.part
+  pub means : Means nodes task.setting d.scope
+  pub sizes : SeesSizes nodes task.setting.sizes d.scope d.part
+
+-- each task stands for one of the spots, in order
+abbrev pub AllFit : List Node → List Task → List Spot → Type 0
+AllFit nodes [] [] = Unit {0}
+AllFit nodes [] (d ∷ ds) = ⊥
+AllFit nodes (task ∷ tasks) [] = ⊥
+AllFit nodes (task ∷ tasks) (d ∷ ds) = Fits nodes task d × AllFit nodes tasks ds
+
+-- tasks that stand for these spots are added behind the others
+pub record Adds (old new : Walk) (ds : List Spot) : Type 0 where
+  pub grown : Grown old.nodes.items new.nodes.items
+  pub added : List Task
+  pub is : new.tasks.items ≡ old.tasks.items ++ added
+  pub fit : AllFit new.nodes.items added ds
+
+-- where these variables of a bit pattern stand further left
+abbrev pub passed : List Bound → Scope → Scope
+passed bs s = record s { known = s.known ++ bs; left = bs }
+
+-- the setting stands for the scope, and what it says of sizes is what a size sees there
+pub record Passes (nodes : List Node) (setting : Setting) (s : Scope) : Type 0 where
+  pub means : Means nodes setting s
+  pub sizes : Sees nodes setting.sizes (size_scope s).known
+
+-- where the new variables of a qualifier hide others
+abbrev pub with_new : Qual → Scope → Scope
+with_new g s = record s { known = new_names g ++ s.known }
+
+abbrev pub size_in : Scope → Option Expr → List Spot
+size_in s None = []
+size_in s (Some e) = spot s (AnExpr e) ∷ []

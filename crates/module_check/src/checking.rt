@@ -1,0 +1,94 @@
+ghost use Rattle.std.specs.Prelude.{◌≡◌, ◌<◌, ◌⊎◌, IfOk, IfErr, MatchOption, length};
+ghost use Rattle.erl_syntax.specs.Checking.{IsAccepted, IsFirstFault};
+ghost use Rattle.erl_syntax.specs.declared.checking.CheckCause.TheVariants.{NoMemory};
+ghost use Rattle.module_check.specs.Order.{IsLeast, Below};
+ghost use Rattle.module_check.specs.Faults.{FunctionFault, AnyFault};
+
+use crate::forms::{clauses_fault, end_fault, exports_fault, heads_fault};
+use crate::order::first_of;
+use crate::walk::inner_fault;
+use erl_syntax::{CheckCause, CheckFault, Module, Span};
+use std::alloc::{AllocError, Global};
+
+/// The first fault of the function at this place among the module's.
+fn function_fault(
+    alloc: Global,
+    tree: &Module,
+    index: usize,
+) -> Result<Option<CheckFault>, AllocError>
+    requires { index < length tree.now.functions }
+    ensures { IfOk result (λ r. IsLeast (FunctionFault tree.now index) r) }
+{
+    let functions = tree.functions.items();
+    let function = &functions[index];
+    let heads = clauses_fault(&functions[..index], function);
+    let inner = inner_fault(alloc, tree, function)?;
+    Ok(first_of(heads, inner))
+}
+
+/// The first fault of the module's functions.
+fn functions_fault(alloc: Global, tree: &Module) -> Result<Option<CheckFault>, AllocError>
+    ensures { IfOk result (λ r. IsLeast (Below (FunctionFault tree.now) (length tree.now.functions)) r) }
+{
+    let mut best = None;
+    let count = tree.functions.items().len();
+    for index in 0..count {
+        let fault = function_fault(alloc, tree, index)?;
+        best = first_of(best, fault);
+    }
+    Ok(best)
+}
+
+/// The first fault of the module, or None where it is accepted.
+fn any_fault(alloc: Global, tree: &Module) -> Result<Option<CheckFault>, AllocError>
+    ensures { IfOk result (λ r. IsLeast (AnyFault tree.now) r) }
+{
+    let heads = heads_fault(tree.heads.items());
+    let forms = first_of(heads, exports_fault(tree));
+    let functions = functions_fault(alloc, tree)?;
+    let rest = first_of(functions, end_fault(tree));
+    Ok(first_of(forms, rest))
+}
+
+/// A module that is refused nothing.
+#[derive(Debug, Drop)]
+pub struct Checked {
+    tree: Module,
+    ghost accepted: { IsAccepted tree },
+}
+
+impl Checked {
+    /// The module that was checked.
+    pub fn module(&self) -> &Module
+        ensures same { result.now ≡ self.now.tree }
+        ensures accepted { IsAccepted result.now }
+    {
+        &self.tree
+    }
+}
+
+fn out_of_memory(_: AllocError) -> CheckFault
+    ensures { result.why ≡ NoMemory }
+{
+    CheckFault {
+        span: Span { line: 1, column: 1 },
+        why: CheckCause::NoMemory,
+    }
+}
+
+/// Checks a module (Erlang Reference Manual, "Modules", "Functions", "Expressions").
+///
+/// # Errors
+///
+/// The fault that starts first in the text, and of those at one place the one whose cause stands first in the order of the
+/// causes; or that memory ran out, which says nothing of the module.
+pub fn check(alloc: Global, tree: Module) -> Result<Checked, CheckFault>
+    ensures accepted { IfOk result (λ checked. checked.tree ≡ tree) }
+    ensures refused { IfErr result (λ fault. (fault.why ≡ NoMemory) ⊎ IsFirstFault tree fault.span fault.why) }
+{
+    match any_fault(alloc, &tree) {
+        Ok(None) => Ok(Checked { tree }),
+        Ok(Some(fault)) => Err(fault),
+        Err(error) => Err(out_of_memory(error)),
+    }
+}

@@ -1,0 +1,613 @@
+//! What is left to look at: parts of a function with what is known where they stand.
+
+ghost use Rattle.std.specs.Prelude.{◌≡◌, ◌++◌, ◌∷◌, [], Bool, List, IfOk, reverse, length, drop, ◌<◌, ◌+◌};
+ghost use Rattle.erl_syntax.specs.Bindings.{Bound, targets, targets_of};
+ghost use Rattle.erl_syntax.specs.declared.clause.Alt.{out-Alt};
+ghost use Rattle.erl_syntax.specs.declared.clause.Branch.{out-Branch};
+ghost use Rattle.erl_syntax.specs.declared.typing.SideUse.TheVariants.{Build, Generator};
+ghost use Rattle.erl_syntax.specs.declared.segment.Segment.{Segment};
+ghost use Rattle.erl_syntax.specs.declared.pattern.Pattern.{Pattern};
+ghost use Rattle.erl_syntax.specs.Scopes.{Scope, AnExpr, APattern, ASegment, behind, with_known, in_guard, to_match, to_generate, past_patterns, past_segments, past_items, past_quals, generated, sizes_of, is_empty};
+ghost use Rattle.erl_syntax.specs.declared.expr.Expr.{Expr};
+ghost use Rattle.module_check.specs.Nodes.{Sees, bound_of, bounds_of};
+ghost use Rattle.module_check.specs.Spots.{Spot, spot, each, expr_in, same_in, tests_in, guard_in, pattern_in, matched_in, item_in, items_in, built_in_turn, segment_in, alt_layer_in, alt_in, branch_layer_in, branch_in, qual_in, quals_in, comprehension_in, inside_expr, inside_pattern, size_scope, inside_segment, inside, clause_in, clauses_in};
+ghost use Rattle.module_check.specs.Tasks.{Means, SeesSizes, Fits, Adds, Passes, passed, with_new, size_in};
+
+use crate::scopes::{Node, Target, append, append_all, endanger, find, put, put_all};
+use crate::targets::{add_new, add_qual_unsafe, add_segment_target, add_targets, add_unsafe};
+use erl_syntax::{
+    Alt, Branch, Clause, Expr, Function, Guard, Item, Pattern, Qual, Segment, SideUse,
+};
+use std::alloc::{AllocError, Global};
+
+/// A part of a function.
+#[derive(Clone, Copy)]
+pub(crate) enum Part<'a> {
+    Expr(&'a Expr),
+    Pattern(&'a Pattern),
+    Body(&'a [Item]),
+    /// A segment, on which side it stands, and whether no other follows.
+    Segment(SideUse, bool, &'a Segment),
+}
+
+/// What is known where a part stands: the nodes of the variables with values, of those that the sizes in a pattern see, and of
+/// the unsafe ones, and whether it is a guard or a size.
+#[derive(Clone, Copy)]
+pub(crate) struct Setting {
+    pub known: usize,
+    pub sizes: usize,
+    pub dangers: usize,
+    pub guarded: bool,
+}
+
+#[derive(Clone, Copy)]
+pub(crate) struct Task<'a> {
+    pub setting: Setting,
+    pub part: Part<'a>,
+}
+
+/// What is left to look at in a function.
+#[derive(Drop)]
+pub(crate) struct Walk<'a> {
+    pub alloc: Global,
+    pub nodes: Vec<Node<'a>>,
+    pub tasks: Vec<Task<'a>>,
+}
+
+impl<'a> Walk<'a> {
+    fn push(&mut self, setting: Setting, part: Part<'a>) -> Result<(), AllocError>
+        ensures { IfOk result (λ u. (d : Spot) → Fits self.old.nodes.items (record { setting = setting; part = part.entry }) d → Adds self.old self.new (d ∷ [])) }
+    {
+        Ok(self.tasks.push(Task { setting, part })?)
+    }
+
+    /// The setting behind an expression.
+    fn behind(&mut self, setting: Setting, expr: &'a Expr) -> Result<Setting, AllocError>
+        ensures adds { IfOk result (λ after. Adds self.old self.new []) }
+        ensures means { IfOk result (λ after. (s : Scope) → Means self.old.nodes.items setting s → Means self.new.nodes.items after (behind (expr.now ∷ []) s)) }
+    {
+        let mut found = Vec::new(self.alloc);
+        add_unsafe(&mut found, expr)?;
+        let dangers = endanger(&mut self.nodes, setting.dangers, setting.known, &found)?;
+        Ok(Setting { dangers, ..setting })
+    }
+
+    /// The setting where the variables of a pattern have values too.
+    fn know(&mut self, setting: Setting, pattern: &'a Pattern) -> Result<Setting, AllocError>
+        ensures adds { IfOk result (λ after. Adds self.old self.new []) }
+        ensures means { IfOk result (λ after. (s : Scope) → Means self.old.nodes.items setting s → Means self.new.nodes.items after (with_known (targets pattern.now) s)) }
+        ensures sizes { IfOk result (λ after. after.sizes ≡ setting.sizes) }
+    {
+        let mut found = Vec::new(self.alloc);
+        add_targets(&mut found, pattern)?;
+        let known = append_all(&mut self.nodes, setting.known, &found)?;
+        Ok(Setting { known, ..setting })
+    }
+
+    /// Expressions one behind another, and the setting behind them.
+    fn push_exprs(&mut self, setting: Setting, exprs: &'a [Expr]) -> Result<Setting, AllocError>
+        ensures { IfOk result (λ after. (s : Scope) (front : List Expr) → Means self.old.nodes.items setting (behind front s) → Adds self.old self.new (each (expr_in s) front exprs.now) × Means self.new.nodes.items after (behind (front ++ exprs.now) s)) }
+    {
+        let mut after = setting;
+        for expr in exprs {
+            self.push(after, Part::Expr(expr))?;
+            after = self.behind(after, expr)?;
+        }
+        Ok(after)
+    }
+
+    /// Expressions in one setting.
+    fn push_same(&mut self, setting: Setting, exprs: &'a [Expr]) -> Result<(), AllocError>
+        ensures { IfOk result (λ u. (s : Scope) → Means self.old.nodes.items setting s → Adds self.old self.new (each (same_in s) [] exprs.now)) }
+    {
+        for expr in exprs {
+            self.push(setting, Part::Expr(expr))?;
+        }
+        Ok(())
+    }
+
+    /// A guard.
+    fn push_guard(&mut self, setting: Setting, guard: &'a Guard) -> Result<(), AllocError>
+        ensures { IfOk result (λ u. (s : Scope) → Means self.old.nodes.items setting s → Adds self.old self.new (guard_in (in_guard s) guard.now)) }
+    {
+        let guarded = Setting {
+            guarded: true,
+            ..setting
+        };
+        let alternatives = guard.alternatives.items();
+        for tests in alternatives {
+            self.push_same(guarded, tests.items())?;
+        }
+        Ok(())
+    }
+
+    /// Patterns one behind another, and the setting behind them.
+    fn push_patterns(
+        &mut self,
+        setting: Setting,
+        patterns: &'a [Pattern],
+    ) -> Result<Setting, AllocError>
+        ensures { IfOk result (λ after. (s : Scope) (front : List Pattern) → Means self.old.nodes.items setting (past_patterns front s) → Sees self.old.nodes.items setting.sizes s.outer → Adds self.old self.new (each (pattern_in s) front patterns.now) × (Means self.new.nodes.items after (past_patterns (front ++ patterns.now) s) × (after.sizes ≡ setting.sizes))) }
+    {
+        let mut after = setting;
+        for pattern in patterns {
+            self.push(after, Part::Pattern(pattern))?;
+            after = self.know(after, pattern)?;
+        }
+        Ok(after)
+    }
+
+    /// The patterns of an item, the last first, and the setting behind them.
+    fn push_matched(
+        &mut self,
+        setting: Setting,
+        patterns: &'a [Pattern],
+    ) -> Result<Setting, AllocError>
+        ensures { IfOk result (λ after. (s : Scope) → Means self.old.nodes.items setting s → Adds self.old self.new (each (matched_in s) [] (reverse patterns.now)) × Means self.new.nodes.items after (with_known (targets_of (reverse patterns.now)) s)) }
+    {
+        let mut after = setting;
+        let mut left = patterns.len();
+        while left > 0 {
+            left -= 1;
+            let pattern = &patterns[left];
+            let matched = Setting {
+                sizes: after.known,
+                ..after
+            };
+            self.push(matched, Part::Pattern(pattern))?;
+            after = self.know(after, pattern)?;
+        }
+        Ok(after)
+    }
+
+    /// An item of a body, and the setting behind it.
+    fn push_item(&mut self, setting: Setting, item: &'a Item) -> Result<Setting, AllocError>
+        ensures { IfOk result (λ after. (s : Scope) → Means self.old.nodes.items setting s → Adds self.old self.new (item_in s item.now) × Means self.new.nodes.items after (past_items (item.now ∷ []) s)) }
+    {
+        self.push(setting, Part::Expr(&item.value))?;
+        let matched = self.push_matched(setting, item.patterns.items())?;
+        let behind = self.behind(setting, &item.value)?;
+        Ok(Setting {
+            known: matched.known,
+            ..behind
+        })
+    }
+
+    fn push_items(&mut self, setting: Setting, items: &'a [Item]) -> Result<(), AllocError>
+        ensures { IfOk result (λ u. (s : Scope) → Means self.old.nodes.items setting s → Adds self.old self.new (each (items_in s) [] items.now)) }
+    {
+        let mut after = setting;
+        for item in items {
+            after = self.push_item(after, item)?;
+        }
+        Ok(())
+    }
+
+    /// The setting behind a segment of a bit expression.
+    fn behind_segment(
+        &mut self,
+        setting: Setting,
+        segment: &'a Segment,
+    ) -> Result<Setting, AllocError>
+        ensures adds { IfOk result (λ after. Adds self.old self.new []) }
+        ensures means { IfOk result (λ after. (s : Scope) → Means self.old.nodes.items setting s → Means self.new.nodes.items after (behind (segment.now.value ∷ sizes_of segment.now) s)) }
+    {
+        let after = self.behind(setting, &segment.value)?;
+        match &segment.size {
+            Some(size) => self.behind(after, size),
+            None => Ok(after),
+        }
+    }
+
+    /// The segments of a bit expression.
+    fn push_built(&mut self, setting: Setting, segments: &'a [Segment]) -> Result<(), AllocError>
+        ensures { IfOk result (λ u. (s : Scope) → Means self.old.nodes.items setting s → Adds self.old self.new (each (built_in_turn s) [] segments.now)) }
+    {
+        let mut after = setting;
+        for (index, segment) in segments.iter().enumerate() {
+            let last = is_last(segments, index);
+            self.push(after, Part::Segment(SideUse::Build, last, segment))?;
+            after = self.behind_segment(after, segment)?;
+        }
+        Ok(())
+    }
+
+    /// The setting behind a variable of a bit pattern.
+    fn pass_target(&mut self, setting: Setting, target: Target<'a>) -> Result<Setting, AllocError>
+        ensures adds { IfOk result (λ after. Adds self.old self.new []) }
+        ensures means { IfOk result (λ after. (s : Scope) (bs : List Bound) → Passes self.old.nodes.items setting (passed bs s) → Passes self.new.nodes.items after (passed (bs ++ bound_of target.entry ∷ []) s)) }
+    {
+        let known = append(&mut self.nodes, setting.known, target)?;
+        let Some(place) = find(&self.nodes, known, target.name) else {
+            return Ok(setting);
+        };
+        let sizes = put(&mut self.nodes, setting.sizes, target.name, place)?;
+        Ok(Setting {
+            known,
+            sizes,
+            ..setting
+        })
+    }
+
+    /// The setting behind these variables of a bit pattern.
+    fn pass_targets(
+        &mut self,
+        setting: Setting,
+        targets: &[Target<'a>],
+    ) -> Result<Setting, AllocError>
+        ensures adds { IfOk result (λ after. Adds self.old self.new []) }
+        ensures means { IfOk result (λ after. (s : Scope) (bs : List Bound) → Passes self.old.nodes.items setting (passed bs s) → Passes self.new.nodes.items after (passed (bs ++ bounds_of targets.now) s)) }
+    {
+        let mut after = setting;
+        for target in targets {
+            after = self.pass_target(after, *target)?;
+        }
+        Ok(after)
+    }
+
+    /// The setting behind a segment of a bit pattern.
+    fn pass_segment(
+        &mut self,
+        setting: Setting,
+        segment: &'a Segment,
+    ) -> Result<Setting, AllocError>
+        ensures adds { IfOk result (λ after. Adds self.old self.new []) }
+        ensures means { IfOk result (λ after. (s : Scope) (front : List Segment) → Passes self.old.nodes.items setting (past_segments front s) → Passes self.new.nodes.items after (past_segments (front ++ segment.now ∷ []) s)) }
+    {
+        let mut found = Vec::new(self.alloc);
+        add_segment_target(&mut found, segment)?;
+        self.pass_targets(setting, &found)
+    }
+
+    /// The segments of a bit pattern.
+    fn push_segments(
+        &mut self,
+        side: SideUse,
+        setting: Setting,
+        segments: &'a [Segment],
+    ) -> Result<(), AllocError>
+        ensures { IfOk result (λ u. (s : Scope) → Means self.old.nodes.items setting s → Sees self.old.nodes.items setting.sizes s.outer → Adds self.old self.new (each (segment_in side s) [] segments.now)) }
+    {
+        let mut after = setting;
+        for (index, segment) in segments.iter().enumerate() {
+            let last = is_last(segments, index);
+            self.push(after, Part::Segment(side, last, segment))?;
+            after = self.pass_segment(after, segment)?;
+        }
+        Ok(())
+    }
+
+    /// A clause of a `case` or a `receive`.
+    fn push_alt(&mut self, setting: Setting, alt: &'a Alt) -> Result<(), AllocError>
+        ensures { IfOk result (λ u. (s : Scope) → Means self.old.nodes.items setting s → Adds self.old self.new (alt_layer_in s (out-Alt alt.now))) }
+    {
+        let matched = Setting {
+            sizes: setting.known,
+            ..setting
+        };
+        self.push(matched, Part::Pattern(&alt.pattern))?;
+        let known = self.know(setting, &alt.pattern)?;
+        self.push_guard(known, &alt.guard)?;
+        let body = alt.body.items();
+        self.push(known, Part::Body(body))
+    }
+
+    fn push_alts(&mut self, setting: Setting, alts: &'a [Alt]) -> Result<(), AllocError>
+        ensures { IfOk result (λ u. (s : Scope) → Means self.old.nodes.items setting s → Adds self.old self.new (each (alt_in s) [] alts.now)) }
+    {
+        for alt in alts {
+            self.push_alt(setting, alt)?;
+        }
+        Ok(())
+    }
+
+    /// A clause of an `if`.
+    fn push_branch(&mut self, setting: Setting, branch: &'a Branch) -> Result<(), AllocError>
+        ensures { IfOk result (λ u. (s : Scope) → Means self.old.nodes.items setting s → Adds self.old self.new (branch_layer_in s (out-Branch branch.now))) }
+    {
+        self.push_guard(setting, &branch.guard)?;
+        let body = branch.body.items();
+        self.push(setting, Part::Body(body))
+    }
+
+    fn push_branches(&mut self, setting: Setting, branches: &'a [Branch]) -> Result<(), AllocError>
+        ensures { IfOk result (λ u. (s : Scope) → Means self.old.nodes.items setting s → Adds self.old self.new (each (branch_in s) [] branches.now)) }
+    {
+        for branch in branches {
+            self.push_branch(setting, branch)?;
+        }
+        Ok(())
+    }
+
+    /// A generator over a list.
+    fn push_generator(
+        &mut self,
+        setting: Setting,
+        source: &'a Expr,
+        pattern: &'a Pattern,
+    ) -> Result<(), AllocError>
+        ensures { IfOk result (λ u. (s : Scope) → Means self.old.nodes.items setting s → Adds self.old self.new (spot s (AnExpr source.now) ∷ spot (to_generate s) (APattern pattern.now) ∷ [])) }
+    {
+        let generated = Setting {
+            known: 0,
+            sizes: setting.known,
+            ..setting
+        };
+        self.push(setting, Part::Expr(source))?;
+        self.push(generated, Part::Pattern(pattern))
+    }
+
+    /// A generator over bits.
+    fn push_bit_generator(
+        &mut self,
+        setting: Setting,
+        source: &'a Expr,
+        segments: &'a [Segment],
+    ) -> Result<(), AllocError>
+        ensures { IfOk result (λ u. (s : Scope) → Means self.old.nodes.items setting s → Adds self.old self.new (spot s (AnExpr source.now) ∷ each (segment_in Generator (to_generate s)) [] segments.now)) }
+    {
+        let generated = Setting {
+            known: 0,
+            sizes: setting.known,
+            ..setting
+        };
+        self.push(setting, Part::Expr(source))?;
+        self.push_segments(SideUse::Generator, generated, segments)
+    }
+
+    /// A qualifier.
+    fn push_qual(&mut self, setting: Setting, qual: &'a Qual) -> Result<(), AllocError>
+        ensures { IfOk result (λ u. (s : Scope) → Means self.old.nodes.items setting s → Adds self.old self.new (qual_in s qual.now)) }
+    {
+        match qual {
+            Qual::Items {
+                pattern,
+                source,
+                ..
+            } => self.push_generator(setting, source, pattern),
+            Qual::Bits {
+                segments,
+                source,
+                ..
+            } => self.push_bit_generator(setting, source, segments.items()),
+            Qual::Filter { test, .. } => self.push(setting, Part::Expr(test)),
+        }
+    }
+
+    /// The setting behind a qualifier.
+    fn past_qual(&mut self, setting: Setting, qual: &'a Qual) -> Result<Setting, AllocError>
+        ensures adds { IfOk result (λ after. Adds self.old self.new []) }
+        ensures means { IfOk result (λ after. (s : Scope) → Means self.old.nodes.items setting s → Means self.new.nodes.items after (past_quals (qual.now ∷ []) s)) }
+    {
+        let mut left = Vec::new(self.alloc);
+        add_qual_unsafe(&mut left, qual)?;
+        let dangers = endanger(&mut self.nodes, setting.dangers, setting.known, &left)?;
+        let generated = self.generate(setting, qual)?;
+        Ok(Setting {
+            dangers,
+            ..generated
+        })
+    }
+
+    /// The setting where the new variables of a qualifier hide others.
+    fn generate(&mut self, setting: Setting, qual: &'a Qual) -> Result<Setting, AllocError>
+        ensures adds { IfOk result (λ after. Adds self.old self.new []) }
+        ensures means { IfOk result (λ after. (s : Scope) → Means self.old.nodes.items setting s → Means self.new.nodes.items after (with_new qual.now s)) }
+    {
+        let mut found = Vec::new(self.alloc);
+        add_new(&mut found, qual)?;
+        let known = put_all(&mut self.nodes, setting.known, &found)?;
+        Ok(Setting { known, ..setting })
+    }
+
+    fn push_quals(&mut self, setting: Setting, quals: &'a [Qual]) -> Result<(), AllocError>
+        ensures { IfOk result (λ u. (s : Scope) → Means self.old.nodes.items setting s → Adds self.old self.new (each (quals_in s) [] quals.now)) }
+    {
+        let mut after = setting;
+        for qual in quals {
+            self.push_qual(after, qual)?;
+            after = self.past_qual(after, qual)?;
+        }
+        Ok(())
+    }
+
+    /// The setting of a comprehension's row.
+    fn generate_all(&mut self, setting: Setting, quals: &'a [Qual]) -> Result<Setting, AllocError>
+        ensures adds { IfOk result (λ after. Adds self.old self.new []) }
+        ensures means { IfOk result (λ after. (s : Scope) → Means self.old.nodes.items setting s → Means self.new.nodes.items after (record s { known = generated quals.now s.known })) }
+    {
+        let mut after = setting;
+        for qual in quals {
+            after = self.generate(after, qual)?;
+        }
+        Ok(after)
+    }
+
+    /// The setting behind expressions.
+    fn behind_all(&mut self, setting: Setting, exprs: &'a [Expr]) -> Result<Setting, AllocError>
+        ensures adds { IfOk result (λ after. Adds self.old self.new []) }
+        ensures means { IfOk result (λ after. (s : Scope) → Means self.old.nodes.items setting s → Means self.new.nodes.items after (behind exprs.now s)) }
+    {
+        let mut after = setting;
+        for expr in exprs {
+            after = self.behind(after, expr)?;
+        }
+        Ok(after)
+    }
+
+    /// A comprehension: what its row leaves unsafe is so in the qualifiers, since it stands before them.
+    fn push_comprehension(
+        &mut self,
+        setting: Setting,
+        row: &'a [Expr],
+        quals: &'a [Qual],
+    ) -> Result<(), AllocError>
+        ensures { IfOk result (λ u. (s : Scope) → Means self.old.nodes.items setting s → Adds self.old self.new (comprehension_in s row.now quals.now)) }
+    {
+        let inner = self.generate_all(setting, quals)?;
+        self.push_same(inner, row)?;
+        let behind = self.behind_all(inner, row)?;
+        let outer = Setting {
+            dangers: behind.dangers,
+            ..setting
+        };
+        self.push_quals(outer, quals)
+    }
+
+    /// What stands inside an expression.
+    fn push_expr(&mut self, setting: Setting, expr: &'a Expr) -> Result<(), AllocError>
+        ensures { IfOk result (λ u. (s : Scope) → Means self.old.nodes.items setting s → Adds self.old self.new (inside_expr s expr.now)) }
+    {
+        match expr {
+            Expr::Tuple { items, .. } => self.push_parts(setting, items.items()),
+            Expr::List { items, tail, .. } => {
+                let behind = self.push_exprs(setting, items.items())?;
+                self.push_parts(behind, tail.items())
+            }
+            Expr::Bits { segments, .. } => self.push_built(setting, segments.items()),
+            Expr::ListFor { row, quals, .. } => {
+                self.push_comprehension(setting, row.items(), quals.items())
+            }
+            Expr::BitsFor { row, quals, .. } => {
+                self.push_comprehension(setting, row.items(), quals.items())
+            }
+            Expr::Call { args, .. } => self.push_parts(setting, args.items()),
+            Expr::Case { value, alts, .. } => {
+                let behind = self.push_exprs(setting, value.items())?;
+                self.push_alts(behind, alts.items())
+            }
+            Expr::Receive { alts, .. } => self.push_alts(setting, alts.items()),
+            Expr::If { branches, .. } => self.push_branches(setting, branches.items()),
+            Expr::Unary { part, .. } => self.push_parts(setting, part.items()),
+            Expr::Binary { parts, .. } => self.push_parts(setting, parts.items()),
+            _ => Ok(()),
+        }
+    }
+
+    fn push_parts(&mut self, setting: Setting, exprs: &'a [Expr]) -> Result<(), AllocError>
+        ensures { IfOk result (λ u. (s : Scope) (front : List Expr) → Means self.old.nodes.items setting (behind front s) → Adds self.old self.new (each (expr_in s) front exprs.now)) }
+    {
+        self.push_exprs(setting, exprs)?;
+        Ok(())
+    }
+
+    /// What stands inside a pattern.
+    fn push_pattern(&mut self, setting: Setting, pattern: &'a Pattern) -> Result<(), AllocError>
+        ensures { IfOk result (λ u. (s : Scope) → Means self.old.nodes.items setting s → Sees self.old.nodes.items setting.sizes s.outer → Adds self.old self.new (inside_pattern s pattern.now)) }
+    {
+        match pattern {
+            Pattern::Tuple { items, .. } => self.push_nested(setting, items.items()),
+            Pattern::List { items, tail, .. } => {
+                let behind = self.push_patterns(setting, items.items())?;
+                self.push_nested(behind, tail.items())
+            }
+            Pattern::Bits { segments, .. } => {
+                self.push_segments(SideUse::Match, setting, segments.items())
+            }
+            Pattern::Same { patterns, .. } => self.push_nested(setting, patterns.items()),
+            _ => Ok(()),
+        }
+    }
+
+    fn push_nested(&mut self, setting: Setting, patterns: &'a [Pattern]) -> Result<(), AllocError>
+        ensures { IfOk result (λ u. (s : Scope) (front : List Pattern) → Means self.old.nodes.items setting (past_patterns front s) → Sees self.old.nodes.items setting.sizes s.outer → Adds self.old self.new (each (pattern_in s) front patterns.now)) }
+    {
+        self.push_patterns(setting, patterns)?;
+        Ok(())
+    }
+
+    /// What stands inside a segment of a bit expression.
+    fn push_value(&mut self, setting: Setting, segment: &'a Segment) -> Result<(), AllocError>
+        ensures { IfOk result (λ u. (s : Scope) → Means self.old.nodes.items setting s → Adds self.old self.new (inside_segment s Build segment.now)) }
+    {
+        self.push(setting, Part::Expr(&segment.value))?;
+        let behind = self.behind(setting, &segment.value)?;
+        self.push_size(behind, &segment.size)
+    }
+
+    /// The size of a segment, where one is written.
+    fn push_size(&mut self, setting: Setting, size: &'a Option<Expr>) -> Result<(), AllocError>
+        ensures { IfOk result (λ u. (s : Scope) → Means self.old.nodes.items setting s → Adds self.old self.new (size_in s size.now)) }
+    {
+        match size {
+            Some(size) => self.push(setting, Part::Expr(size)),
+            None => Ok(()),
+        }
+    }
+
+    /// What stands inside a segment of a bit pattern.
+    fn push_sized(&mut self, setting: Setting, segment: &'a Segment) -> Result<(), AllocError>
+        ensures { IfOk result (λ u. (s : Scope) → Means self.old.nodes.items setting s → Sees self.old.nodes.items setting.sizes (size_scope s).known → Adds self.old self.new (size_in (size_scope s) segment.now.size)) }
+    {
+        let sized = Setting {
+            known: setting.sizes,
+            guarded: true,
+            ..setting
+        };
+        self.push_size(sized, &segment.size)
+    }
+
+    /// What stands inside a segment.
+    fn push_segment(
+        &mut self,
+        setting: Setting,
+        side: SideUse,
+        segment: &'a Segment,
+    ) -> Result<(), AllocError>
+        ensures { IfOk result (λ u. (s : Scope) (last : Bool) → Means self.old.nodes.items setting s → SeesSizes self.old.nodes.items setting.sizes s (ASegment side last segment.now) → Adds self.old self.new (inside_segment s side segment.now)) }
+    {
+        match side {
+            SideUse::Build => self.push_value(setting, segment),
+            SideUse::Match => self.push_sized(setting, segment),
+            SideUse::Generator => self.push_sized(setting, segment),
+        }
+    }
+
+    /// What stands right inside the part of a task.
+    pub fn push_inside(&mut self, task: Task<'a>) -> Result<(), AllocError>
+        ensures { IfOk result (λ u. (d : Spot) → Fits self.old.nodes.items task.entry d → Adds self.old self.new (inside d.scope d.part)) }
+    {
+        let setting = task.setting;
+        match task.part {
+            Part::Expr(expr) => self.push_expr(setting, expr),
+            Part::Pattern(pattern) => self.push_pattern(setting, pattern),
+            Part::Body(items) => self.push_items(setting, items),
+            Part::Segment(side, _, segment) => self.push_segment(setting, side, segment),
+        }
+    }
+
+    /// A clause of a function.
+    fn push_clause(&mut self, clause: &'a Clause) -> Result<(), AllocError>
+        ensures { IfOk result (λ u. Adds self.old self.new (clause_in [] clause.now [])) }
+    {
+        let nothing = Setting {
+            known: 0,
+            sizes: 0,
+            dangers: 0,
+            guarded: false,
+        };
+        let known = self.push_patterns(nothing, clause.patterns.items())?;
+        self.push_guard(known, &clause.guard)?;
+        let body = clause.body.items();
+        self.push(known, Part::Body(body))
+    }
+
+    /// The clauses of a function.
+    pub fn push_clauses(&mut self, function: &'a Function) -> Result<(), AllocError>
+        ensures { IfOk result (λ u. Adds self.old self.new (clauses_in function.now)) }
+    {
+        let clauses = function.clauses.items();
+        for clause in clauses {
+            self.push_clause(clause)?;
+        }
+        Ok(())
+    }
+}
+
+/// Whether no segment follows.
+fn is_last(segments: &[Segment], index: usize) -> bool
+    requires { index < length segments.now }
+    ensures { result ≡ is_empty (drop (index + 1) segments.now) }
+{
+    index + 1 == segments.len()
+}

@@ -1,0 +1,4 @@
+pub mod Reading
+pub mod Source
+pub mod Wanted
+pub mod WantedPatterns

@@ -1,0 +1,34 @@
+-- The words of a text: its tokens with what they stand for.
+use Rattle.std.specs.Prelude.{◌≡◌, ℕ, ◌+◌, ◌<◌, ◌≤◌, ◌^◌, length, List, ◌∷◌, drop, map}
+use Rattle.erl_syntax.specs.Word.{Word}
+use Rattle.erl_syntax.specs.Tokens.{token_text}
+pub use Rattle.erl_syntax.specs.Reading.{characters_of}
+use Rattle.erl_syntax.specs.declared.token.TokenKind.{TokenKind}
+use Rattle.pattern_read.specs.declared.source.Numbered.{Numbered}
+use Rattle.erl_syntax.specs.declared.token.TokenKind.TheVariants as k
+
+-- the number that a token stands for
+abbrev pub number_of : Numbered → TokenKind → ℕ
+number_of n k.Integer = n.value
+number_of n _ = n.number
+
+-- integers are below 2^127, and tokens stand in the text
+pub record IsSound (text : List ℕ) (n : Numbered) : Type 0 where
+  pub narrow : n.value < 2 ^ 127
+  pub ordered : n.token.from ≤ n.token.to
+  pub within : n.token.to ≤ length text
+
+abbrev pub word_of : List ℕ → Numbered → Word
+word_of text n = record { kind = n.token.kind; at = n.token.span; number = number_of n n.token.kind; chars = characters_of n.token.kind (token_text text n.token) }
+
+-- the words of numbered tokens of a text
+abbrev pub words : List ℕ → List Numbered → List Word
+words text tokens = map (word_of text) tokens
+
+-- the token is the one of that index
+pub record StandsAt (all : List Word) (at : ℕ) (n : Numbered) : Type 0 where
+  pub word : Word
+  pub is : drop at all ≡ word ∷ drop (at + 1) all
+  pub kind : word.kind ≡ n.token.kind
+  pub place : word.at ≡ n.token.span
+  pub number : word.number ≡ number_of n n.token.kind

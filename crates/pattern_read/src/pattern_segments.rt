@@ -1,0 +1,145 @@
+ghost use Rattle.std.specs.Prelude.{◌≡◌, ◌≤◌, ◌<◌, ◌+◌, ◌^◌, length, drop, IfOk};
+ghost use Rattle.pattern_read.specs.Reading.{Gives, closed};
+ghost use Rattle.pattern_read.specs.Wanted.{in_size};
+ghost use Rattle.pattern_read.specs.WantedPatterns.{goes_sized, pattern_bits_in, pattern_rest_in, pattern_segment_in, pattern_size_in};
+
+use crate::fault::{Cause, Fault};
+use crate::pattern_leaves::pattern_value;
+use crate::pattern_starts::value_cause;
+use crate::placed::{Placed, higher};
+use crate::segment_types::segment_type;
+use crate::sizes::size_level;
+use crate::source::{Source, mark};
+use erl_syntax::{Expr, Listed, Segment, TokenKind};
+use std::alloc::Global;
+
+/// The segments of a bit pattern, behind `<<`.
+pub fn pattern_bits(
+    alloc: Global,
+    source: &Source,
+    at: usize,
+    deep: usize,
+    brackets: usize,
+) -> Result<((Listed<Segment>, usize), usize), Fault>
+    requires place { at ≤ length source.now }
+    requires tree { deep ≤ 256 }
+    requires bracket { brackets < 64 }
+    ensures reads { Gives closed (pattern_bits_in (in_size deep brackets)) source.now at result }
+    ensures further { IfOk result (λ r. at < r.1 × (r.1 ≤ length source.now)) }
+    ensures bounded { IfOk result (λ r. (1 ≤ r.0.1) × (deep + r.0.1 ≤ 257)) }
+{
+    let mut segments = Vec::new(alloc);
+    if source.is(at, TokenKind::RightBits) {
+        return Ok(((Listed::of(segments), 1), at + 1));
+    }
+    if deep >= 256 {
+        return Err(Fault::Refused(at, value_cause(source, at)));
+    }
+    let mut height = 0;
+    let mut next = at;
+    loop {
+        let ((segment, tall), after) = pattern_segment(
+            alloc,
+            source,
+            next,
+            deep + 1,
+            brackets + 1,
+        )?;
+        segments.push(segment)?;
+        height = higher(height, tall);
+        if source.is(after, TokenKind::RightBits) {
+            return Ok(((Listed::of(segments), height + 1), after + 1));
+        }
+        if !source.is(after, TokenKind::Comma) {
+            return Err(Fault::Refused(after, Cause::Syntax));
+        }
+        next = after + 1;
+    }
+}
+
+/// A segment of a bit pattern.
+fn pattern_segment(
+    alloc: Global,
+    source: &Source,
+    at: usize,
+    deep: usize,
+    brackets: usize,
+) -> Result<((Segment, usize), usize), Fault>
+    requires place { at ≤ length source.now }
+    requires tree { deep ≤ 256 }
+    requires bracket { brackets ≤ 64 }
+    ensures reads { Gives goes_sized (pattern_segment_in (in_size deep brackets)) source.now at result }
+    ensures further { IfOk result (λ r. at < r.1 × (r.1 ≤ length source.now)) }
+    ensures bounded { IfOk result (λ r. (1 ≤ r.0.1) × (deep + r.0.1 ≤ 257)) }
+{
+    let (value, after) = pattern_value(alloc, source, at, deep)?;
+    segment_rest(alloc, source, after, deep, brackets, value)
+}
+
+/// A segment of a bit pattern, behind its value.
+fn segment_rest(
+    alloc: Global,
+    source: &Source,
+    at: usize,
+    deep: usize,
+    brackets: usize,
+    value: Placed<Expr>,
+) -> Result<((Segment, usize), usize), Fault>
+    requires place { at ≤ length source.now }
+    requires tree { deep ≤ 256 }
+    requires bracket { brackets ≤ 64 }
+    requires tall { 1 ≤ value.height }
+    requires height { deep + value.height ≤ 257 }
+    ensures reads { Gives goes_sized (pattern_rest_in (in_size deep brackets) value) source.now at result }
+    ensures further { IfOk result (λ r. at ≤ r.1 × (r.1 ≤ length source.now)) }
+    ensures bounded { IfOk result (λ r. (1 ≤ r.0.1) × (deep + r.0.1 ≤ 257)) }
+{
+    let place = value.at;
+    if !source.is(at, TokenKind::Colon) {
+        let (segment, next) = segment_type(alloc, source, at, place, value.tree, None)?;
+        return Ok(((segment, value.height), next));
+    }
+    let ((size, tall), after) = pattern_size(alloc, source, at + 1, deep, brackets)?;
+    let (segment, next) = segment_type(alloc, source, after, place, value.tree, Some(size))?;
+    Ok(((segment, higher(value.height, tall)), next))
+}
+
+/// The size of a segment of a bit pattern: an integer, a variable, or an expression in parentheses.
+fn pattern_size(
+    alloc: Global,
+    source: &Source,
+    at: usize,
+    deep: usize,
+    brackets: usize,
+) -> Result<((Expr, usize), usize), Fault>
+    requires place { at ≤ length source.now }
+    requires tree { deep ≤ 256 }
+    requires bracket { brackets ≤ 64 }
+    ensures reads { Gives closed (pattern_size_in (in_size deep brackets)) source.now at result }
+    ensures further { IfOk result (λ r. at < r.1 × (r.1 ≤ length source.now)) }
+    ensures bounded { IfOk result (λ r. (1 ≤ r.0.1) × (deep + r.0.1 ≤ 257)) }
+{
+    let Some(numbered) = source.token(at) else {
+        return Err(Fault::Refused(at, Cause::Syntax));
+    };
+    let place = numbered.token.span;
+    match numbered.token.kind {
+        TokenKind::Integer => {
+            let value = numbered.integer();
+            Ok(((Expr::Int { at: place, value }, 1), at + 1))
+        }
+        TokenKind::Variable => {
+            let name = source.name(alloc, at)?;
+            Ok(((Expr::Var { at: place, name }, 1), at + 1))
+        }
+        TokenKind::LeftParen => {
+            if brackets >= 64 {
+                return Err(Fault::Refused(at, Cause::TooDeep));
+            }
+            let (inner, after) = size_level(alloc, source, at + 1, 0, deep, brackets + 1)?;
+            let (_, next) = mark(source, after, TokenKind::RightParen)?;
+            Ok(((inner.tree, inner.height), next))
+        }
+        _ => Err(Fault::Refused(at, Cause::Syntax)),
+    }
+}

@@ -1,0 +1,211 @@
+ghost use Rattle.std.specs.Prelude.{◌≡◌, ◌≤◌, ◌<◌, ◌+◌, ◌^◌, ◌↔◌, ◌∷◌, [], List, length, drop, pos, false, IsTrue, IfOk, IfSome, OnSome, MatchOption};
+ghost use Rattle.std.specs.Prelude.{All};
+ghost use Rattle.pattern_read.specs.Source.{StandsAt, IsSound, words, characters_of};
+ghost use Rattle.pattern_read.specs.Wanted.{IsAt, AtomAt, ModuleAt, NoMark, NoModule, FirstCause, mark_in};
+ghost use Rattle.pattern_read.specs.Reading.{Gives, closed};
+ghost use Rattle.erl_syntax.specs.Word.{Word};
+ghost use Rattle.erl_syntax.specs.declared.token.TokenKind.TheVariants as k;
+
+use crate::fault::{Cause, Fault};
+use crate::operators::begins_size;
+use erl_syntax::{Listed, Text, Token, TokenKind};
+use erl_tokens::{atom_text, string_characters};
+use std::alloc::{AllocError, Global};
+use std::marker::Model;
+
+/// The tokens of a text with what they stand for, which contracts see as the list of their words.
+#[derive(Debug, Drop)]
+pub struct Source {
+    text: Vec<u8>,
+    tokens: Vec<Numbered>,
+}
+
+/// A token with the number that it stands for.
+#[derive(Clone, Copy, Debug, PartialEq, Eq)]
+pub struct Numbered {
+    pub token: Token,
+    /// An atom's number among the module's atoms, or the number of a character.
+    pub number: u32,
+    /// The value of an integer.
+    pub value: u128,
+}
+
+impl Numbered {
+    /// The value of an integer, which is below 2^127.
+    pub fn integer(&self) -> i128
+        requires { self.now.value < 2 ^ 127 }
+        ensures { result ≡ pos self.now.value }
+    {
+        self.value as i128
+    }
+
+    /// Whether the value is below 2^127 and the token stands in the text.
+    fn is_sound(&self, text: &[u8]) -> bool
+        ensures { IsTrue result ↔ IsSound text.now self.now }
+    {
+        self.value < 1 << 127
+            && self.token.from <= self.token.to
+            && self.token.to as usize <= text.len()
+    }
+}
+
+/// Whether tokens are those of a text, as `Source::of` asks: each stands in it, and its value is below 2^127.
+pub fn are_sound(text: &[u8], tokens: &[Numbered]) -> bool
+    ensures { IsTrue result ↔ All (IsSound text.now) tokens.now }
+{
+    tokens.iter().all(|numbered| numbered.is_sound(text))
+}
+
+impl Model for Source {
+    ghost use Rattle.std.specs.Prelude.{List};
+    ghost use Rattle.erl_syntax.specs.Word.{Word};
+    ghost use Rattle.std.specs.Prelude.{All};
+    ghost use Rattle.pattern_read.specs.Source.{words, IsSound};
+
+    ghost Value = { List Word };
+
+    ghost view = { λ source. words source.text.items source.tokens.items };
+
+    ghost invariant = { λ source. All (IsSound source.text.items) source.tokens.items };
+}
+
+impl Source {
+    /// A text with its tokens. Takes no memory.
+    pub fn of(text: Vec<u8>, tokens: Vec<Numbered>) -> Source
+        requires { All (IsSound text.items) tokens.items }
+        ensures { result ≡ words text.items tokens.items }
+    {
+        Source { text, tokens }
+    }
+
+    /// The token of that index.
+    pub fn token(&self, at: usize) -> Option<Numbered>
+        requires { at ≤ length self.now }
+        ensures token { MatchOption result (drop at self.now ≡ []) (λ t. StandsAt self.now at t) }
+        ensures within { OnSome result (at < length self.now) }
+        ensures narrow { IfSome result (λ t. t.value < 2 ^ 127) }
+        ensures short { length self.now < 2 ^ 64 }
+    {
+        if at < self.tokens.len() {
+            Some(self.tokens[at])
+        } else {
+            None
+        }
+    }
+
+    /// Whether a token of that kind stands there.
+    pub fn is(&self, at: usize, kind: TokenKind) -> bool
+        requires { at ≤ length self.now }
+        ensures yes { IsTrue result → IsAt self.now at kind }
+        ensures no { result ≡ false → NoMark kind (drop at self.now) }
+        ensures within { IsTrue result → at < length self.now }
+        ensures short { length self.now < 2 ^ 64 }
+    {
+        let Some(numbered) = self.token(at) else {
+            return false;
+        };
+        if numbered.token.kind == kind {
+            true
+        } else {
+            false
+        }
+    }
+
+    /// The number of the atom that stands there.
+    pub fn atom(&self, at: usize) -> Option<u32>
+        requires { at ≤ length self.now }
+        ensures atom { MatchOption result (NoMark k.Atom (drop at self.now)) (λ n. AtomAt self.now at n) }
+        ensures within { OnSome result (at < length self.now) }
+        ensures short { length self.now < 2 ^ 64 }
+    {
+        let Some(numbered) = self.token(at) else {
+            return None;
+        };
+        if numbered.token.kind == TokenKind::Atom {
+            Some(numbered.number)
+        } else {
+            None
+        }
+    }
+
+    /// The bytes of the name that stands there.
+    pub fn name(&self, alloc: Global, at: usize) -> Result<Text, AllocError>
+        requires { at < length self.now }
+        ensures { IfOk result (λ name. (w : Word) (rest : List Word) → drop at self.now ≡ w ∷ rest → w.kind ≡ k.Variable → name ≡ w.chars) }
+    {
+        let bytes = self.bytes(at).to_vec(alloc)?;
+        Ok(Text::of(bytes))
+    }
+
+    /// Whether the variable `MODULE` stands there.
+    pub fn is_module(&self, at: usize) -> bool
+        requires { at ≤ length self.now }
+        ensures yes { IsTrue result → ModuleAt self.now at }
+        ensures no { result ≡ false → NoModule (drop at self.now) }
+        ensures within { IsTrue result → at < length self.now }
+        ensures short { length self.now < 2 ^ 64 }
+    {
+        if !self.is(at, TokenKind::Variable) {
+            return false;
+        }
+        if self.bytes(at) == b"MODULE".as_slice() {
+            true
+        } else {
+            false
+        }
+    }
+
+    /// The characters of the atom that stands there. One in quotes is the same atom as without them.
+    pub fn atom_characters(&self, alloc: Global, at: usize) -> Result<Text, AllocError>
+        requires { at < length self.now }
+        ensures { IfOk result (λ chars. (w : Word) (rest : List Word) → drop at self.now ≡ w ∷ rest → w.kind ≡ k.Atom → chars ≡ w.chars) }
+    {
+        atom_text(alloc, self.bytes(at))
+    }
+
+    /// The numbers of the characters of the string that stands there.
+    pub fn string(&self, alloc: Global, at: usize) -> Result<Listed<u32>, AllocError>
+        requires { at < length self.now }
+        ensures { IfOk result (λ chars. (w : Word) (rest : List Word) → drop at self.now ≡ w ∷ rest → w.kind ≡ k.Str → chars ≡ w.chars) }
+    {
+        let chars = string_characters(alloc, self.bytes(at))?;
+        Ok(Listed::of(chars))
+    }
+
+    /// The bytes of the token that stands there.
+    fn bytes(&self, at: usize) -> &[u8]
+        requires { at < length self.now }
+        ensures { (w : Word) (rest : List Word) → drop at self.now ≡ w ∷ rest → w.chars ≡ characters_of w.kind result.now }
+    {
+        let token = self.tokens[at].token;
+        &self.text[token.from as usize..token.to as usize]
+    }
+}
+
+/// Reads a token of that kind.
+pub fn mark(source: &Source, at: usize, kind: TokenKind) -> Result<((), usize), Fault>
+    requires { at ≤ length source.now }
+    ensures reads { Gives closed (mark_in kind) source.now at result }
+    ensures further { IfOk result (λ r. (r.1 ≡ at + 1) × (at < length source.now)) }
+{
+    if source.is(at, kind) {
+        Ok(((), at + 1))
+    } else {
+        Err(Fault::Refused(at, Cause::Syntax))
+    }
+}
+
+/// Why no expression of a size stands where it would be too deep.
+pub fn first_cause(source: &Source, at: usize) -> Cause
+    requires { at ≤ length source.now }
+    ensures { FirstCause (drop at source.now) result }
+{
+    let Some(numbered) = source.token(at) else {
+        return Cause::Syntax;
+    };
+    if begins_size(numbered.token.kind) {
+        Cause::TooDeep
+    } else {
+        Cause::Syntax
+    }
+}
