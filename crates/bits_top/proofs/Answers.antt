@@ -5,7 +5,7 @@ use Rattle.std.specs.Fmt.{signed_decimal}
 use Rattle.std.proofs.lemmas.Fmt.{decimal_injective}
 use Rattle.std.proofs.lemmas.List.Folds.{flat_map-map}
 use Rattle.std.specs.Io.KnownBytes.{Consumes, IsAtEnd}
-use Rattle.bits_top.specs.Answer.{Port, Untouched, IsAccepted, IsRefusedText, IsRefusedWith, IsUnaccepted, IsWhole, IsRun, AnswersRefusal, AnswersAccepted, AnswersRun, AnswersCheck, AnswersOk, CantRun, ChecksWell, IsToldWell, IsSmooth, IsSmoothRefusal, IsDoneOrNoMemory, IsRefusedOrNoMemory, text_limit}
+use Rattle.bits_top.specs.Answer.{Port, Untouched, IsAccepted, IsRefusedText, IsRefusedWith, IsUnaccepted, IsWhole, IsStraightRun, AnswersRefusal, AnswersAccepted, AnswersRun, AnswersCheck, AnswersOk, CantRun, ChecksWell, IsToldWell, IsSmooth, IsSmoothRefusal, IsDoneOrNoMemory, IsRefusedOrNoMemory, text_limit}
 use Rattle.bits_top.specs.Command.{Spells, SpellsCheck, SpellsRun}
 use Rattle.bits_top.specs.declared.command.Command.{Command}
 use Rattle.bits_top.specs.declared.command.Command.TheVariants as made
@@ -29,7 +29,7 @@ use Rattle.bits_top.specs.declared.status.Status.TheVariants.{Done, Refused, Usa
 
 -- a whole run and its texts
 pub run_told : (s : Straight) (r : ℕ) (outcome : Outcome) (order report : List ℕ) → HasRun s r outcome → order ≡ order_text outcome.entries →
-    report ≡ flat_map (λ n. signed_decimal n ++ codes "\n") outcome.shown ++ processes_text 1 (Left (end_of outcome.ending) ∷ []) → IsRun s r order report
+    report ≡ flat_map (λ n. signed_decimal n ++ codes "\n") outcome.shown ++ processes_text 1 (Left (end_of outcome.ending) ∷ []) → IsStraightRun s r order report
 run_told s r outcome order report h o t =
     let lines : flat_map (λ v. value_text v ++ codes "\n") (map (λ n. VInt n) outcome.shown) ≡ flat_map (λ n. signed_decimal n ++ codes "\n") outcome.shown =
     flat_map-map (λ v. value_text v ++ codes "\n") (λ n. VInt n) outcome.shown in

@@ -4,6 +4,11 @@ pub mod Ended
 pub mod Goes
 pub mod ReadingItems
 pub mod Runs
+pub mod SameAsks
+pub mod SameMatch
+pub mod SamePut
+pub mod SameRuns
+pub mod SameWalks
 pub mod Sizes
 pub mod Spelling
 pub mod Words

@@ -9,6 +9,7 @@ use Rattle.module_accept.specs.Accepting.{Accepts, IsDue}
 use Rattle.bits_top.specs.Machine.{IsLegal, IsComplete}
 use Rattle.bits_top.specs.Runs.{start}
 use Rattle.bits_top.specs.Texts as texts
+use Rattle.bits_top.specs.Whole.{IsRunOf, module_of_straight}
 use Rattle.bits_top.specs.declared.entry.Entry.{Entry}
 use Rattle.bits_top.specs.declared.form.Straight.{Straight}
 use Rattle.bits_top.specs.declared.status.Status.{Status}
@@ -90,13 +91,18 @@ IsRefusedText source text line = IsTooLong source text line ⊎ IsUnaccepted sou
 abbrev pub IsRefusedWith : Port → List ℕ → List ℕ → Type 0
 IsRefusedWith source text line = IsRefusedText source text line ⊎ IsNotBuilt source text line
 
--- An order of the module's copying machine, legal and complete, and its two texts.
-pub record IsRun (straight : Straight) (reductions : ℕ) (order report : List ℕ) : Type 0 where
+-- An order of the copying machine for modules of today's form, legal and complete, and its two texts.
+pub record IsStraightRun (straight : Straight) (reductions : ℕ) (order report : List ℕ) : Type 0 where
   pub entries : List Entry
   pub legal : IsLegal (start straight reductions) entries
   pub complete : IsComplete (start straight reductions) entries
   pub ordered : order ≡ texts.order_text entries
   pub reported : report ≡ texts.report (start straight reductions) entries
+
+-- The two texts are those of a legal and complete order of the module in the whole language, whatever further atoms its table
+-- has.
+abbrev pub IsRun : Straight → ℕ → List ℕ → List ℕ → Type 0
+IsRun straight reductions order report = (others : List (List ℕ)) (name : ℕ) → IsRunOf (module_of_straight others name straight) reductions order report
 
 -- The module was run: all bytes that the order sink took are the text of a legal and complete order, and all that the
 -- report sink took are the module's report in that order.

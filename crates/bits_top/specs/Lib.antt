@@ -11,3 +11,4 @@ pub mod Stream
 pub mod Texts
 pub mod Tree
 pub mod Value
+pub mod Whole

@@ -112,7 +112,8 @@ fn check_module<S: Source, A: Sink>(alloc: Global, source: &mut S, report: &mut 
         Err(ReadError::Fault) => return Status::ReadFault,
         Err(ReadError::Memory) => return Status::NoMemory,
     };
-    if text.len() > TEXT_LIMIT as usize {
+    let limit = TEXT_LIMIT as usize;
+    if text.len() > limit {
         return refuse(report, b"1:1: text too long\n");
     }
     match accept(alloc, &text) {
@@ -126,10 +127,10 @@ fn check_module<S: Source, A: Sink>(alloc: Global, source: &mut S, report: &mut 
 fn found<A: Sink>(report: &mut A) -> Status
     ensures { AnswersOk result (port A.written A.faults report.old report.new) }
 {
-    match write_all(report, b"ok\n") {
-        Ok(()) => Status::Done,
-        Err(_) => Status::ReportFault,
+    if write_all(report, b"ok\n").is_err() {
+        return Status::ReportFault;
     }
+    Status::Done
 }
 
 // Reads the module and runs it, or refuses its text.

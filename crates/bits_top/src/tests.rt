@@ -140,7 +140,7 @@ fn other_words_touch_no_port(rt: HostRuntime) -> Result<(), Fail> {
         &["run", "", "o.txt", "2", "10"],
         &["run", "m.erl", "", "2", "10"],
         &["Run", "m.erl", "o.txt", "2", "10"],
-        &["check", "m.erl"],
+        &["check", ""],
         &["load", "1", "1", "2"],
     ];
     for texts in rows {
@@ -189,6 +189,128 @@ fn a_text_is_refused_past_its_limit(rt: HostRuntime) -> Result<(), Fail> {
     assert_eq!(rt;
         answer.report.as_slice(),
         b"1:1: text too long\n".as_slice()
+    );
+    Ok(())
+}
+
+// Calls `check` on a text, and compares its status and its report.
+fn check(
+    rt: &(impl Abort + Threads + Wait + Sync),
+    alloc: Global,
+    text: &str,
+    status: Status,
+    report: &str,
+) -> Result<(), Fail> {
+    let answer = call(rt, alloc, &["check", "m.erl"], text.as_bytes(), [0, 0, 0])?;
+    assert_eq!(rt; answer.status, status);
+    assert_eq!(rt; answer.report.as_slice(), report.as_bytes());
+    assert_eq!(rt; answer.order.len(), 0);
+    Ok(())
+}
+
+// Calls `check` on a module whose third line this is.
+fn check_line(
+    rt: &(impl Abort + Threads + Wait + Sync),
+    alloc: Global,
+    line: &str,
+    status: Status,
+    report: &str,
+) -> Result<(), Fail> {
+    let text = format!(in alloc; "-module(m).\n-export([main/0]).\n{line}\n")?;
+    check(rt, alloc, text.as_str(), status, report)
+}
+
+#[test]
+fn an_accepted_module_is_found_so(rt: HostRuntime) -> Result<(), Fail> {
+    let alloc = rt.alloc();
+    check(&rt, alloc, FIRST, Status::Done, "ok\n")?;
+    check_line(
+        &rt,
+        alloc,
+        "main() -> erlang:display(<<>>).",
+        Status::Done,
+        "ok\n",
+    )?;
+    check_line(
+        &rt,
+        alloc,
+        "main() -> [X || <<X:4>> <= <<1>>, X > 0].",
+        Status::Done,
+        "ok\n",
+    )
+}
+
+#[test]
+fn a_text_that_spells_no_module_is_refused(rt: HostRuntime) -> Result<(), Fail> {
+    let alloc = rt.alloc();
+    let cut = "-module(m).\n-export([main/0]).\nmain() -> <<1,";
+    check(&rt, alloc, cut, Status::Refused, "3:15: syntax\n")?;
+    check_line(
+        &rt,
+        alloc,
+        "main() -> f(X) = 3.",
+        Status::Refused,
+        "3:16: syntax\n",
+    )?;
+    check_line(
+        &rt,
+        alloc,
+        "main() -> (X = 3).",
+        Status::Refused,
+        "3:18: syntax\n",
+    )?;
+    check_line(
+        &rt,
+        alloc,
+        "main() -> 1.5.",
+        Status::Refused,
+        "3:11: float\n",
+    )
+}
+
+#[test]
+fn a_module_with_a_fault_is_refused(rt: HostRuntime) -> Result<(), Fail> {
+    let alloc = rt.alloc();
+    check_line(
+        &rt,
+        alloc,
+        "main() -> <<A/binary,B/binary>> = <<1>>, A.",
+        Status::Refused,
+        "3:13: open segment not last\n",
+    )?;
+    check_line(
+        &rt,
+        alloc,
+        "main() -> X.",
+        Status::Refused,
+        "3:11: unbound variable\n",
+    )?;
+    check_line(
+        &rt,
+        alloc,
+        "main() -> f().",
+        Status::Refused,
+        "3:11: undefined function\n",
+    )?;
+    check(
+        &rt,
+        alloc,
+        "",
+        Status::Refused,
+        "1:1: no module attribute\n",
+    )
+}
+
+#[test]
+fn a_run_is_refused_with_the_first_fault(rt: HostRuntime) -> Result<(), Fail> {
+    let alloc = rt.alloc();
+    let text = "-module(m).\n-export([main/0]).\nmain() -> X.\n";
+    let words = ["run", "m.erl", "o.txt", "2", "1000"];
+    let answer = call(&rt, alloc, &words, text.as_bytes(), [0, 0, 0])?;
+    assert_eq!(rt; answer.status, Status::Refused);
+    assert_eq!(rt;
+        answer.report.as_slice(),
+        b"3:11: unbound variable\n".as_slice()
     );
     Ok(())
 }

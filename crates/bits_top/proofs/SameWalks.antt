@@ -1,0 +1,210 @@
+-- The contractions of a process of today's form in the whole language.
+use Rattle.std.proofs.Common.{◌≡◌, ℕ, ℤ, suc, zero, ◌+◌, ◌-◌, ◌*◌, ◌≤◌, ◌<◌, List, [], ◌∷◌, ◌++◌, length, map, Bool, true, false, nat_eq, nat_lt, All, refl, sym, ap, subst, ◌∙◌, arith, append-nil, slice_index_or, codes}
+use Rattle.std.proofs.lemmas.Bool.Decides.{nat_tests}
+use Rattle.std.proofs.lemmas.List.Elements.{All-head, All-tail}
+use Rattle.erl_syntax.specs.Atoms.{fixed_atoms, a_reductions}
+use Rattle.term_value.specs.Value.{Value, Values, none, more, VInt, VAtom, VBits}
+use Rattle.term_value.specs.Result.{raise}
+use Rattle.term_value.specs.Tree.{Bound, Table, Build, Call, Display, Tree, Val, All as Form, First, end, and, Shut, Then, Last, PBits, Patterns, no_pattern, pattern_and, Module}
+use Rattle.term_value.specs.PutIn.{put_in}
+use Rattle.term_value.specs.Read.{body, types, segments}
+use Rattle.term_value.specs.Step.{World, setting, Ask, Show, Ready, Goes, Asks, step, steps}
+use Rattle.term_value.specs.Machine.{value_trees, atom_from, first_of}
+use Rattle.term_value.specs.Local.{Local, Course, At, Fell, spent, Outcome, Wants, EndsDone, EndsRaised, Unfinished, walk, outcome_in, ask_of, size_of}
+use Rattle.bits_top.specs.Tree as own_tree
+use Rattle.bits_top.specs.Body as own_body
+use Rattle.bits_top.specs.Form.{IsField, AreItems}
+use Rattle.bits_top.specs.Runs.{IsShort, parts_bits, fields_bits, known}
+use Rattle.bits_top.specs.Whole.{field_pieces, part_piece, lines, module_of_straight}
+use Rattle.bits_top.proofs.SamePut.{put_put}
+use Rattle.bits_top.proofs.SameMatch.{part_values, part_trees, values_put, prim_parts, decoded, numbered, fields_taken, fields_put}
+use Rattle.bits_top.proofs.SameAsks.{value_of, due_display, due, standing, open_body, resting, whole_of, known_more, known_length, numbered_more, all_below, found, even_bits}
+use Rattle.bits_top.specs.declared.form.Field.{Field}
+use Rattle.bits_top.specs.declared.form.Part.{Part}
+use Rattle.bits_top.specs.declared.form.Item.{Item}
+use Rattle.bits_top.specs.declared.form.Item.TheVariants as item
+use Rattle.bits_top.specs.declared.form.Straight.{Straight}
+use Rattle.bits_top.specs.declared.matching.Binding.{Binding}
+
+-- one contraction in a walk
+
+not_less : (n : ℕ) → nat_lt n n ≡ false
+not_less n = grind (arith, nat_tests)
+
+not_below : (n : ℕ) → nat_lt n 0 ≡ false
+not_below n = grind (arith, nat_tests)
+
+free : (l : Local) (c : Course) → spent l 0 c ≡ record l { course = c }
+free l c = let e : l.left - 0 ≡ l.left = omega arith in rw (not_below l.left, e) refl
+
+abbrev pub world_of : Module → World
+world_of code = record { code = code; pid = 1 }
+
+walk_free : (code : Module) (less : Local → Outcome) (n left : ℕ) (t u : Tree) → step (world_of code) t ≡ Goes 0 u →
+    walk code less (suc n) (standing left t) ≡ walk code less n (standing left u)
+walk_free code less n left t u e = rw (e, free (standing left t) (At u), not_less left) refl
+
+walk_done : (code : Module) (less : Local → Outcome) (n left : ℕ) (v : Value) → walk code less n (standing left (Val v)) ≡ EndsDone
+walk_done code less zero left v = refl
+walk_done code less (suc n) left v = refl
+
+walk_out : (code : Module) (less : Local → Outcome) (n left : ℕ) → walk code less n (record { pid = 1; course = Fell (raise a_reductions); seen = []; left = left }) ≡ EndsRaised (VAtom a_reductions)
+walk_out code less zero left = refl
+walk_out code less (suc n) left = refl
+
+walk_spent : (code : Module) (less : Local → Outcome) (n : ℕ) (t : Tree) (ask : Ask) (next : Value → Tree) → step (world_of code) t ≡ Asks ask next →
+    walk code less (suc n) (standing 0 t) ≡ EndsRaised (VAtom a_reductions)
+walk_spent code less n t ask next e = rw e (walk_out code less n 0)
+
+walk_asks : (code : Module) (less : Local → Outcome) (n left : ℕ) (t : Tree) (ask : Ask) (next : Value → Tree) → step (world_of code) t ≡ Asks ask next →
+    walk code less (suc n) (standing (suc left) t) ≡ Wants ask (λ v. standing left (next v))
+walk_asks code less n left t ask next e = let d : suc left - 1 ≡ left = omega arith in rw e (ap (λ k. Wants ask (λ v. standing k (next v))) d)
+
+-- the contractions of an item
+
+steps_ready : (w : World) (vs : Values) → steps w (value_trees vs) ≡ Ready vs
+steps_ready w none = refl
+steps_ready w (more v vs) = rw (steps_ready w vs) refl
+
+abbrev pub bits_of : List Part → List Bool
+bits_of ps = own_tree.built (own_body.segments ps)
+
+abbrev pub building : List Part → Tree
+building ps = Form (Table (Build (types (map part_piece ps)))) (value_trees (part_values ps))
+
+builds : (w : World) (ps : List Part) (rest : Shut) → parts_bits ps ≤ 134_217_728 → step w (First (building ps) rest) ≡ Goes 0 (First (Val (VBits (bits_of ps))) rest)
+builds w ps rest h = rw (steps_ready w (part_values ps), prim_parts (setting w) ps h) refl
+
+-- the patterns of an item that matches
+abbrev pub fields_pattern : ℕ → List Field → Patterns
+fields_pattern number fields = pattern_and (PBits (segments (field_pieces number fields))) no_pattern
+
+takes_last : (w : World) (number : ℕ) (fields : List Field) (bits : List Bool) → All IsField fields → fields_bits fields ≡ length bits →
+    step w (First (Val (VBits bits)) (Last (fields_pattern number fields))) ≡ Goes 0 (Val (VBits bits))
+takes_last w number fields bits fit even = rw (fields_taken (setting w) number fields [] bits (λ x le. refl) fit even) refl
+
+takes_then : (w : World) (number : ℕ) (fields : List Field) (bits : List Bool) (rest : Tree) → All IsField fields → fields_bits fields ≡ length bits →
+    step w (First (Val (VBits bits)) (Then (fields_pattern number fields) rest)) ≡ Goes 0 (put_in (numbered number (decoded fields bits)) rest)
+takes_then w number fields bits rest fit even = rw (fields_taken (setting w) number fields [] bits (λ x le. refl) fit even) refl
+
+-- the body with the values put in
+
+open_match_last : (bs : List Binding) (fields : List Field) (ps : List Part) →
+    open_body bs (item.Match fields ps ∷ []) ≡ First (building ps) (Last (fields_pattern (length (known bs)) fields))
+open_match_last bs fields ps = rw (part_trees ps, values_put (numbered 0 bs) (part_values ps), fields_put (numbered 0 bs) (length (known bs)) fields (all_below bs)) refl
+
+open_match_then : (bs : List Binding) (fields : List Field) (ps : List Part) (next : Item) (items : List Item) →
+    open_body bs (item.Match fields ps ∷ next ∷ items)
+    ≡ First (building ps) (Then (fields_pattern (length (known bs)) fields) (put_in (numbered 0 bs) (body (lines (known bs ++ map (λ field. field.variable) fields) (next ∷ items)))))
+open_match_then bs fields ps next items = rw (part_trees ps, values_put (numbered 0 bs) (part_values ps), fields_put (numbered 0 bs) (length (known bs)) fields (all_below bs)) refl
+
+-- the body after a match
+open_after : (bs : List Binding) (fields : List Field) (bits : List Bool) (items : List Item) →
+    put_in (numbered (length (known bs)) (decoded fields bits)) (put_in (numbered 0 bs) (body (lines (known bs ++ map (λ field. field.variable) fields) items)))
+    ≡ open_body (bs ++ decoded fields bits) items
+open_after bs fields bits items =
+    put_put (numbered 0 bs) (numbered (length (known bs)) (decoded fields bits)) (body (lines (known bs ++ map (λ field. field.variable) fields) items))
+    ∙ ap (λ b. put_in b (body (lines (known bs ++ map (λ field. field.variable) fields) items))) (numbered_more 0 (length (known bs)) bs (decoded fields bits) (omega (arith, known_length bs)))
+    ∙ ap (λ names. put_in (numbered 0 (bs ++ decoded fields bits)) (body (lines names items))) (sym (known_more bs fields bits))
+
+abbrev pub display_of : ℤ → Tree
+display_of n = Form Display (and (Val (VInt n)) end)
+
+walk_shows_last : (code : Module) (less : Local → Outcome) (n left : ℕ) (v : ℤ) (bs : List Binding) → walk code less (suc n) (standing left (display_of v)) ≡ whole_of (due_display v bs [] left)
+walk_shows_last code less n zero v bs = walk_spent code less n (display_of v) (Show (VInt v)) (λ a. Val a) refl
+walk_shows_last code less n (suc left) v bs = walk_asks code less n left (display_of v) (Show (VInt v)) (λ a. Val a) refl
+
+walk_shows_then : (code : Module) (less : Local → Outcome) (n left : ℕ) (v : ℤ) (bs : List Binding) (next : Item) (items : List Item) →
+    walk code less (suc n) (standing left (First (display_of v) (Then no_pattern (open_body bs (next ∷ items))))) ≡ whole_of (due_display v bs (next ∷ items) left)
+walk_shows_then code less n zero v bs next items =
+    walk_spent code less n (First (display_of v) (Then no_pattern (open_body bs (next ∷ items)))) (Show (VInt v)) (λ a. First (Val a) (Then no_pattern (open_body bs (next ∷ items)))) refl
+walk_shows_then code less n (suc left) v bs next items =
+    walk_asks code less n left (First (display_of v) (Then no_pattern (open_body bs (next ∷ items)))) (Show (VInt v)) (λ a. First (Val a) (Then no_pattern (open_body bs (next ∷ items)))) refl
+
+open_display_last : (bs : List Binding) (x j : ℕ) → j < length (known bs) → slice_index_or (known bs) j x ≡ x → open_body bs (item.Display x ∷ []) ≡ display_of (value_of bs x)
+open_display_last bs x j h e = rw (found 0 bs x j h e) refl
+
+open_display_then : (bs : List Binding) (x j : ℕ) (next : Item) (items : List Item) → j < length (known bs) → slice_index_or (known bs) j x ≡ x →
+    open_body bs (item.Display x ∷ next ∷ items) ≡ First (display_of (value_of bs x)) (Then no_pattern (open_body bs (next ∷ items)))
+open_display_then bs x j next items h e =
+    rw (found 0 bs x j h e) (ap (λ names. First (display_of (value_of bs x)) (Then no_pattern (put_in (numbered 0 bs) (body (lines names (next ∷ items)))))) (append-nil (known bs)))
+
+-- the items one after another
+
+-- two contractions an item are never too many
+room_for : (items : List Item) (names : List ℕ) (bs : List Bound) → 2 * length items ≤ size_of (put_in bs (body (lines names items)))
+room_for [] names bs = omega arith
+room_for (item.Match fields ps ∷ []) names bs = omega arith
+room_for (item.Display x ∷ []) names bs = omega arith
+room_for (item.Match fields ps ∷ next ∷ items) names bs = omega (arith, room_for (next ∷ items) (names ++ map (λ field. field.variable) fields) bs)
+room_for (item.Display x ∷ next ∷ items) names bs = omega (arith, room_for (next ∷ items) (names ++ []) bs)
+
+walk_items : (code : Module) (less : Local → Outcome) (items : List Item) (bs : List Binding) (left n : ℕ) → AreItems (known bs) items → All IsShort items → 2 * length items ≤ n →
+    walk code less n (standing left (open_body bs items)) ≡ whole_of (due bs items left)
+walk_items code less [] bs left n fits short h = walk_done code less n left _
+walk_items code less (i ∷ items) bs left zero fits short h = absurd (omega (arith, h))
+walk_items code less (i ∷ items) bs left (suc zero) fits short h = absurd (omega (arith, h))
+walk_items code less (item.Match fields ps ∷ []) bs left (suc (suc n)) fits short h =
+    let number : ℕ = length (known bs) in
+    ap (λ t. walk code less (suc (suc n)) (standing left t)) (open_match_last bs fields ps)
+    ∙ walk_free code less (suc n) left (First (building ps) (Last (fields_pattern number fields))) (First (Val (VBits (bits_of ps))) (Last (fields_pattern number fields)))
+    (builds (world_of code) ps (Last (fields_pattern number fields)) (All-head IsShort (item.Match fields ps) [] short))
+    ∙ walk_free code less n left (First (Val (VBits (bits_of ps))) (Last (fields_pattern number fields))) (Val (VBits (bits_of ps)))
+    (takes_last (world_of code) number fields (bits_of ps) fits.0.fields_fit (even_bits (known bs) fields ps fits.0))
+    ∙ walk_done code less n left (VBits (bits_of ps))
+walk_items code less (item.Match fields ps ∷ next ∷ items) bs left (suc (suc n)) fits short h =
+    let number : ℕ = length (known bs) in
+    let rest : Tree = put_in (numbered 0 bs) (body (lines (known bs ++ map (λ field. field.variable) fields) (next ∷ items))) in
+    ap (λ t. walk code less (suc (suc n)) (standing left t)) (open_match_then bs fields ps next items)
+    ∙ walk_free code less (suc n) left (First (building ps) (Then (fields_pattern number fields) rest)) (First (Val (VBits (bits_of ps))) (Then (fields_pattern number fields) rest))
+    (builds (world_of code) ps (Then (fields_pattern number fields) rest) (All-head IsShort (item.Match fields ps) (next ∷ items) short))
+    ∙ walk_free code less n left (First (Val (VBits (bits_of ps))) (Then (fields_pattern number fields) rest)) (put_in (numbered number (decoded fields (bits_of ps))) rest)
+    (takes_then (world_of code) number fields (bits_of ps) rest fits.0.fields_fit (even_bits (known bs) fields ps fits.0))
+    ∙ ap (λ t. walk code less n (standing left t)) (open_after bs fields (bits_of ps) (next ∷ items))
+    ∙ walk_items code less (next ∷ items) (bs ++ decoded fields (bits_of ps)) left n (subst (λ names. AreItems names (next ∷ items)) (sym (known_more bs fields (bits_of ps))) fits.1)
+    (All-tail IsShort (item.Match fields ps) (next ∷ items) short) (omega (arith, h))
+walk_items code less (item.Display x ∷ []) bs left (suc (suc n)) fits short h =
+    ap (λ t. walk code less (suc (suc n)) (standing left t)) (open_display_last bs x fits.0.0 fits.0.1 fits.0.2)
+    ∙ walk_shows_last code less (suc n) left (value_of bs x) bs
+walk_items code less (item.Display x ∷ next ∷ items) bs left (suc (suc n)) fits short h =
+    ap (λ t. walk code less (suc (suc n)) (standing left t)) (open_display_then bs x fits.0.0 next items fits.0.1 fits.0.2)
+    ∙ walk_shows_then code less (suc n) left (value_of bs x) bs next items
+
+-- the ask of a local state
+
+by_walk : (code : Module) (left : ℕ) (t : Tree) (o : Outcome) → ((less : Local → Outcome) → walk code less (suc (size_of t)) (standing left t) ≡ o) → ask_of code (standing left t) ≡ o
+by_walk code zero t o h = h (λ l. Unfinished)
+by_walk code (suc left) t o h = h (outcome_in code left)
+
+-- after a display that was answered
+pub asks_resting : (code : Module) (bs : List Binding) (items : List Item) (left : ℕ) (answer : Value) → AreItems (known bs) items → All IsShort items →
+    ask_of code (standing left (resting bs items answer)) ≡ whole_of (due bs items left)
+asks_resting code bs [] left answer fits short = by_walk code left (Val answer) EndsDone (λ less. walk_done code less 2 left answer)
+asks_resting code bs (i ∷ items) left answer fits short =
+    let t : Tree = open_body bs (i ∷ items) in
+    let again : put_in [] t ≡ t = put_put (numbered 0 bs) [] (body (lines (known bs) (i ∷ items))) ∙ ap (λ b. put_in b (body (lines (known bs) (i ∷ items)))) (append-nil (numbered 0 bs)) in
+    let room : 2 * length (i ∷ items) ≤ 1 + size_of t + 2 = omega (arith, room_for (i ∷ items) (known bs) (numbered 0 bs)) in
+    by_walk code left (First (Val answer) (Then no_pattern t)) (whole_of (due bs (i ∷ items) left))
+    (λ less. walk_free code less (1 + size_of t + 2) left (First (Val answer) (Then no_pattern t)) t (ap (λ u. Goes 0 u) again) ∙ walk_items code less (i ∷ items) bs left (1 + size_of t + 2) fits short room)
+
+same_number : (n : ℕ) → nat_eq n n ≡ true
+same_number n = grind (arith, nat_tests)
+
+-- process 1 at its start has a call of `main/0`
+pub starts : (others : List (List ℕ)) (name : ℕ) (straight : Straight) (reductions : ℕ) →
+    first_of (module_of_straight others name straight) reductions 1 name (atom_from 0 (fixed_atoms ++ others) (codes "main")) none ≡ standing reductions (Form (Call 0) end)
+starts others name straight reductions = rw (same_number name, same_number (atom_from 0 (fixed_atoms ++ others) (codes "main"))) refl
+
+-- when the call is paid
+pub asks_first : (others : List (List ℕ)) (name : ℕ) (straight : Straight) (left : ℕ) → AreItems [] straight.items → All IsShort straight.items →
+    ask_of (module_of_straight others name straight) (standing (suc left) (Form (Call 0) end)) ≡ whole_of (due [] straight.items left)
+asks_first others name straight left fits short =
+    let code : Module = module_of_straight others name straight in
+    let p : nat_lt (suc left) 1 ≡ false = grind (arith, nat_tests) in
+    let q : nat_lt left (suc left) ≡ true = grind (arith, nat_tests) in
+    let d : suc left - 1 ≡ left = omega arith in
+    let t : Tree = open_body [] straight.items in
+    let inside : ask_of code (standing left t) ≡ whole_of (due [] straight.items left) =
+    by_walk code left t (whole_of (due [] straight.items left))
+    (λ less. walk_items code less straight.items [] left (suc (size_of t)) fits short (omega (arith, room_for straight.items [] []))) in
+    rw (p, d, q) inside
