@@ -112,8 +112,7 @@ fn check_module<S: Source, A: Sink>(alloc: Global, source: &mut S, report: &mut 
         Err(ReadError::Fault) => return Status::ReadFault,
         Err(ReadError::Memory) => return Status::NoMemory,
     };
-    let limit = TEXT_LIMIT as usize;
-    if text.len() > limit {
+    if text.len() > TEXT_LIMIT as usize {
         return refuse(report, b"1:1: text too long\n");
     }
     match accept(alloc, &text) {

@@ -4,5 +4,7 @@
 mod accepting;
 mod causes;
 mod lines;
+#[cfg(test)]
+mod tests;
 
 pub use accepting::{Refusal, accept};
