@@ -3,6 +3,8 @@
 
 #[cfg(test)]
 mod check_tests;
+#[cfg(test)]
+mod example_tests;
 mod printing;
 #[cfg(test)]
 mod tests;
