@@ -324,3 +324,51 @@ fn the_missing_module_is_told_before_the_missing_main(rt: HostRuntime) -> Result
     ];
     texts_say(&rt, rt.alloc(), &rows)
 }
+
+#[test]
+fn places_are_counted_in_characters(rt: HostRuntime) -> Result<(), Fail> {
+    let rows = [
+        ("main() ->\tX.", "3:11: unbound variable"),
+        ("main() ->\r\n\tX.", "4:2: unbound variable"),
+        ("main() ->\u{a0}X.", "3:11: unbound variable"),
+        ("main() ->\u{85}X.", "3:11: unbound variable"),
+        ("main() -> % \u{e9}\n  X.", "4:3: unbound variable"),
+        ("main() -> \"\u{e9}\", X.", "3:16: unbound variable"),
+        (
+            "main() -> '\u{20ac}\u{1f600}', X.",
+            "3:17: unbound variable",
+        ),
+        ("main() -> $\u{e9}, X.", "3:15: unbound variable"),
+        ("main() -> \"a\n b\", X.", "4:6: unbound variable"),
+    ];
+    all_say(&rt, rt.alloc(), &rows)
+}
+
+#[test]
+fn what_is_unsafe_goes_by_the_order_of_the_text(rt: HostRuntime) -> Result<(), Fail> {
+    let rows = [
+        (
+            "main() -> case case 1 of Y -> Y end of Y -> Y end.",
+            "3:40: unsafe variable",
+        ),
+        (
+            "main() -> [1 || _ <- [case 1 of Y -> Y end], Y].",
+            "3:46: unsafe variable",
+        ),
+        (
+            "main() -> [case 1 of Y -> Y end || X <- [1], Y].",
+            "3:46: unsafe variable",
+        ),
+        ("main() -> [case 1 of Y -> Y end || Y <- [1]].", "ok"),
+        (
+            "main() -> <<(case 1 of Y -> 1 end):Y>>.",
+            "3:36: unsafe variable",
+        ),
+        (
+            "main() -> case 1 of Y -> 1 end + Y.",
+            "3:34: unsafe variable",
+        ),
+        ("main() -> {Y, Z} = case 1 of Y -> {Y, Y} end, Z.", "ok"),
+    ];
+    all_say(&rt, rt.alloc(), &rows)
+}
