@@ -64,21 +64,25 @@ module _ {X : Type 0} (Of : X → Span → CheckCause → Type 0) where
   pub none_of_none : IsLeast (Some_of Of []) None
   none_of_none at why h = absurd (omega (arith, h.1.0.1))
 
-  pub least_more : (xs : List X) (i : ℕ) (x : X) (a b r : Option CheckFault) → i < length xs → x ≡ get_or xs i x → IsLeast (Some_of Of (take i xs)) a → IsLeast (Of x) b → IsFirstOf a b r → IsLeast (Some_of Of (take (i + 1) xs)) r
-  least_more xs i x a b r l e p q f =
-      let cut : take (i + 1) xs ≡ take i xs ++ x ∷ [] = take_more xs i x l ∙ ap (λ y. take i xs ++ y ∷ []) (sym e) in
-      let both = least_of_both (Some_of Of (take i xs)) (Of x) a b r p q f in
-      let F : List X → Type 0 = λ ys. IsLeast (Some_of Of ys) r in
-      subst F (sym cut) (same_least (Either (Some_of Of (take i xs)) (Of x)) (Some_of Of (take i xs ++ x ∷ [])) r
+  -- one more at the end
+  pub least_push : (xs : List X) (x : X) (a b r : Option CheckFault) → IsLeast (Some_of Of xs) a → IsLeast (Of x) b → IsFirstOf a b r → IsLeast (Some_of Of (xs ++ x ∷ [])) r
+  least_push xs x a b r p q f =
+      same_least (Either (Some_of Of xs) (Of x)) (Some_of Of (xs ++ x ∷ [])) r
       (λ at why h. elim h [
-        | inl k ↦ (k.0, (Contains-append_left (take i xs) (x ∷ []) k.0 k.1.0, k.1.1))
-        | inr k ↦ (x, (Contains-push (take i xs) x, k))
+        | inl k ↦ (k.0, (Contains-append_left xs (x ∷ []) k.0 k.1.0, k.1.1))
+        | inr k ↦ (x, (Contains-push xs x, k))
       ])
-      (λ at why h. elim (Contains-push_cases (take i xs) x h.0 h.1.0) [
+      (λ at why h. elim (Contains-push_cases xs x h.0 h.1.0) [
         | inl k ↦ inl (h.0, (k, h.1.1))
         | inr k ↦ inr (let G : X → Type 0 = λ y. Of y at why in subst G (sym k) h.1.1)
       ])
-      both)
+      (least_of_both (Some_of Of xs) (Of x) a b r p q f)
+
+  pub least_more : (xs : List X) (i : ℕ) (x : X) (a b r : Option CheckFault) → i < length xs → x ≡ get_or xs i x → IsLeast (Some_of Of (take i xs)) a → IsLeast (Of x) b → IsFirstOf a b r → IsLeast (Some_of Of (take (i + 1) xs)) r
+  least_more xs i x a b r l e p q f =
+      let cut : take (i + 1) xs ≡ take i xs ++ x ∷ [] = take_more xs i x l ∙ ap (λ y. take i xs ++ y ∷ []) (sym e) in
+      let F : List X → Type 0 = λ ys. IsLeast (Some_of Of ys) r in
+      subst F (sym cut) (least_push (take i xs) x a b r p q f)
 
   pub least_all : (xs : List X) (i : ℕ) (r : Option CheckFault) → length xs ≤ i → IsLeast (Some_of Of (take i xs)) r → IsLeast (Some_of Of xs) r
   least_all xs i r l h = let F : List X → Type 0 = λ ys. IsLeast (Some_of Of ys) r in subst F (take_all i xs l) h

@@ -1,5 +1,5 @@
 -- The faults of a module's forms.
-use Rattle.std.proofs.Common.{◌≡◌, ℕ, ◌≤◌, pos, Bool, true, false, not, List, [], ◌∷◌, length, get_or, drop, Option, refl, sym, ◌∙◌, ap, subst, arith, MatchBool}
+use Rattle.std.proofs.Common.{◌≡◌, ℕ, ◌≤◌, pos, Bool, true, false, not, List, [], ◌∷◌, length, get_or, drop, Option, refl, sym, subst, arith, MatchBool}
 use Rattle.std.specs.List.{Contains}
 use Rattle.std.specs.Prelude.{codes}
 use Rattle.erl_syntax.specs.Checking.{Spelled}
@@ -10,16 +10,12 @@ use Rattle.erl_syntax.specs.declared.module.Clause.{Clause}
 use Rattle.erl_syntax.specs.declared.checking.CheckCause.TheVariants as c
 use Rattle.erl_syntax.specs.declared.checking.CheckFault.{CheckFault}
 use Rattle.module_check.specs.Order.{IsLeast, IsFirstOf, Some_of, At}
-use Rattle.module_check.specs.Faults.{rest, IsExportOf, IsMissing, HasNoMain, DiffersFault, IsAmong, ClausesFault}
+use Rattle.module_check.specs.Faults.{rest, HasNoMain, DiffersFault, IsAmong, ClausesFault}
 use Rattle.module_check.proofs.Firsts.{least_of_both}
 
 pub rest_drop : {X : Type 0} (xs : List X) → rest xs ≡ drop 1 xs
 rest_drop [] = refl
 rest_drop (y ∷ ys) = refl
-
-pub missing_by : (m : Module) (e : Name) (r : Bool) → MatchBool r ((f : Function) × (Contains m.functions f × IsExportOf e f)) ((f : Function) × (Contains m.functions f × IsExportOf e f) → ⊥) → MatchBool (not r) (IsMissing m e) (IsMissing m e → ⊥)
-missing_by m e true h = λ k. k h.0.arity h.1.1.1 (record { function = h.0; among = h.1.0; named = h.1.1.0; takes = refl })
-missing_by m e false h = λ arity a f. h (f.function, (f.among, (f.named, a ∙ ap pos (sym f.takes))))
 
 pub no_main_by : (m : Module) (r : Bool) → MatchBool r ((e : Name) × (Contains m.exports e × (Spelled m e.name (codes "main") × (e.arity ≡ pos 0)))) ((e : Name) × (Contains m.exports e × (Spelled m e.name (codes "main") × (e.arity ≡ pos 0))) → ⊥) → MatchBool (not r) (HasNoMain m) (HasNoMain m → ⊥)
 no_main_by m true h = λ k. k h.0.name h.1.1.0 (record { export = h.0; among = h.1.0; named = refl; takes = h.1.1.1 })

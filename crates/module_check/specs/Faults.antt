@@ -38,9 +38,6 @@ rest (y ∷ ys) = ys
 abbrev pub HeadFault : Head → Span → CheckCause → Type 0
 HeadFault h at why = At h.at c.ModuleAgain at why
 
-abbrev pub IsExportOf : Name → Function → Type 0
-IsExportOf e f = (f.name ≡ e.name) × (e.arity ≡ pos f.arity)
-
 abbrev pub IsMissing : Module → Name → Type 0
 IsMissing m e = (arity : ℕ) → e.arity ≡ pos arity → HasFunction m e.name arity → ⊥
 

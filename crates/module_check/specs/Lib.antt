@@ -1,4 +1,5 @@
 pub mod Faults
+pub mod Index
 pub mod Nodes
 pub mod Order
 pub mod Spots

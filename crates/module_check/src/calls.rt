@@ -1,13 +1,13 @@
 ghost use Rattle.std.specs.Prelude.{◌≡◌, MatchBool, Contains, true};
 ghost use Rattle.erl_syntax.specs.BuiltIns.{is_for_guards};
-ghost use Rattle.erl_syntax.specs.Checking.{Spelled, HasFunction, IsExported, IsOwn, CallsBuiltIn, CallsOwn};
+ghost use Rattle.erl_syntax.specs.Checking.{Spelled, IsOwn, CallsBuiltIn, CallsOwn};
 ghost use Rattle.erl_syntax.specs.declared.built_in.BuiltIn.{BuiltIn};
-ghost use Rattle.module_check.specs.Order.{IsLeast, Some_of};
-ghost use Rattle.module_check.specs.Faults.{IsOfBuiltIn, IsForGuards, IsUndefined, BareFault, NamedFault, CallFault, FirstClause, IsNamed, IsAtomOf};
+ghost use Rattle.module_check.specs.Order.{IsLeast};
+ghost use Rattle.module_check.specs.Faults.{IsOfBuiltIn, IsForGuards, IsUndefined, BareFault, CallFault, IsAtomOf};
 
-use crate::names::{has_function, is_exported};
+use crate::index::Indexed;
 use crate::order::{fault_if, first_of};
-use erl_syntax::{BUILT_INS, BuiltIn, CheckCause, CheckFault, Expr, Function, Module, Span};
+use erl_syntax::{BUILT_INS, BuiltIn, CheckCause, CheckFault, Expr, Module, Span};
 
 /// Whether the atom of this number has these characters.
 pub fn is_spelled(tree: &Module, atom: u32, chars: &[u8]) -> bool
@@ -105,66 +105,39 @@ fn is_for_guards(tree: &Module, home: &[Expr], name: u32, arity: usize) -> bool
 }
 
 /// Whether a call is of a function of the module.
-fn calls_own(tree: &Module, home: &[Expr], name: u32, arity: usize) -> bool
+fn calls_own(tree: &Indexed, home: &[Expr], name: u32, arity: usize) -> bool
     ensures { MatchBool result (CallsOwn tree.now home.now name arity) (CallsOwn tree.now home.now name arity → ⊥) }
 {
-    if !has_function(tree, name, arity) {
+    if !tree.has_function(name, arity) {
         return false;
     }
     match home {
         [] => true,
-        [home] => is_own(tree, home) && is_exported(tree, name, arity),
+        [home] => is_own(tree.module(), home) && tree.is_exported(name, arity),
         _ => false,
     }
 }
 
 /// Whether a call is of no function.
-fn is_undefined(tree: &Module, home: &[Expr], name: u32, arity: usize) -> bool
+fn is_undefined(tree: &Indexed, home: &[Expr], name: u32, arity: usize) -> bool
     ensures { MatchBool result (IsUndefined tree.now home.now name arity) (IsUndefined tree.now home.now name arity → ⊥) }
 {
-    !is_of_built_in(tree, home, name, arity) && !calls_own(tree, home, name, arity)
+    !is_of_built_in(tree.module(), home, name, arity) && !calls_own(tree, home, name, arity)
 }
 
 /// Whether a call stands in a guard and may not.
-fn is_barred(tree: &Module, guarded: bool, home: &[Expr], name: u32, arity: usize) -> bool
+fn is_barred(tree: &Indexed, guarded: bool, home: &[Expr], name: u32, arity: usize) -> bool
     ensures { MatchBool result ((guarded ≡ true) × (IsForGuards tree.now home.now name arity → ⊥)) ((guarded ≡ true) × (IsForGuards tree.now home.now name arity → ⊥) → ⊥) }
 {
-    guarded && !is_for_guards(tree, home, name, arity)
-}
-
-/// That the function has this name and number of arguments, at its first clause.
-fn named_fault(function: &Function, name: u32, arity: usize) -> Option<CheckFault>
-    ensures { IsLeast (NamedFault name arity function.now) result }
-{
-    if function.name != name || function.arity as usize != arity {
-        return None;
-    }
-    match function.clauses.items().first() {
-        Some(first) => Some(CheckFault {
-            span: first.at,
-            why: CheckCause::FunctionAgain,
-        }),
-        None => None,
-    }
-}
-
-/// The first of those functions that have this name and number of arguments.
-fn named_faults(functions: &[Function], name: u32, arity: usize) -> Option<CheckFault>
-    ensures { IsLeast (Some_of (NamedFault name arity) functions.now) result }
-{
-    let mut best = None;
-    for function in functions {
-        best = first_of(best, named_fault(function, name, arity));
-    }
-    best
+    guarded && !is_for_guards(tree.module(), home, name, arity)
 }
 
 /// The functions whose name and number of arguments are those of a built-in function, and of this call.
-fn bare_fault(tree: &Module, home: &[Expr], name: u32, arity: usize) -> Option<CheckFault>
+fn bare_fault(tree: &Indexed, home: &[Expr], name: u32, arity: usize) -> Option<CheckFault>
     ensures { IsLeast (BareFault tree.now home.now name arity) result }
 {
-    if home.is_empty() && is_of_built_in(tree, home, name, arity) {
-        named_faults(tree.functions.items(), name, arity)
+    if home.is_empty() && is_of_built_in(tree.module(), home, name, arity) {
+        tree.named_faults(name, arity)
     } else {
         None
     }
@@ -172,7 +145,7 @@ fn bare_fault(tree: &Module, home: &[Expr], name: u32, arity: usize) -> Option<C
 
 /// The first fault of a call.
 pub(crate) fn call_fault(
-    tree: &Module,
+    tree: &Indexed,
     guarded: bool,
     at: Span,
     home: &[Expr],

@@ -5,6 +5,7 @@ ghost use Rattle.module_check.specs.Order.{IsLeast, Below};
 ghost use Rattle.module_check.specs.Faults.{FunctionFault, AnyFault};
 
 use crate::forms::{clauses_fault, end_fault, exports_fault, heads_fault};
+use crate::index::Indexed;
 use crate::order::first_of;
 use crate::walk::inner_fault;
 use erl_syntax::{CheckCause, CheckFault, Module, Span};
@@ -13,25 +14,25 @@ use std::alloc::{AllocError, Global};
 /// The first fault of the function at this place among the module's.
 fn function_fault(
     alloc: Global,
-    tree: &Module,
+    tree: &Indexed,
     index: usize,
 ) -> Result<Option<CheckFault>, AllocError>
     requires { index < length tree.now.functions }
     ensures { IfOk result (λ r. IsLeast (FunctionFault tree.now index) r) }
 {
-    let functions = tree.functions.items();
+    let functions = tree.module().functions.items();
     let function = &functions[index];
-    let heads = clauses_fault(&functions[..index], function);
+    let heads = clauses_fault(tree, index, function);
     let inner = inner_fault(alloc, tree, function)?;
     Ok(first_of(heads, inner))
 }
 
 /// The first fault of the module's functions.
-fn functions_fault(alloc: Global, tree: &Module) -> Result<Option<CheckFault>, AllocError>
+fn functions_fault(alloc: Global, tree: &Indexed) -> Result<Option<CheckFault>, AllocError>
     ensures { IfOk result (λ r. IsLeast (Below (FunctionFault tree.now) (length tree.now.functions)) r) }
 {
     let mut best = None;
-    let count = tree.functions.items().len();
+    let count = tree.module().functions.items().len();
     for index in 0..count {
         let fault = function_fault(alloc, tree, index)?;
         best = first_of(best, fault);
@@ -43,9 +44,10 @@ fn functions_fault(alloc: Global, tree: &Module) -> Result<Option<CheckFault>, A
 fn any_fault(alloc: Global, tree: &Module) -> Result<Option<CheckFault>, AllocError>
     ensures { IfOk result (λ r. IsLeast (AnyFault tree.now) r) }
 {
+    let indexed = Indexed::of(alloc, tree)?;
     let heads = heads_fault(tree.heads.items());
-    let forms = first_of(heads, exports_fault(tree));
-    let functions = functions_fault(alloc, tree)?;
+    let forms = first_of(heads, exports_fault(&indexed));
+    let functions = functions_fault(alloc, &indexed)?;
     let rest = first_of(functions, end_fault(tree));
     Ok(first_of(forms, rest))
 }

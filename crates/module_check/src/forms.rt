@@ -1,11 +1,11 @@
 ghost use Rattle.std.specs.Prelude.{◌≡◌, ◌≢◌, MatchBool, [], pos, ℕ, take, length, codes, Contains};
-ghost use Rattle.erl_syntax.specs.Checking.{HasFunction, IsExported, Spelled};
+ghost use Rattle.erl_syntax.specs.Checking.{Spelled};
 ghost use Rattle.module_check.specs.Order.{IsLeast, Some_of};
-ghost use Rattle.module_check.specs.Faults.{rest, HeadFault, IsMissing, ExportFault, HasNoMain, EndFault, Differs, DiffersFault, IsNamed, IsAmong, ClausesFault, IsExportOf};
-ghost use Rattle.erl_syntax.specs.declared.module.Function.{Function};
+ghost use Rattle.module_check.specs.Faults.{rest, HeadFault, ExportFault, HasNoMain, EndFault, Differs, DiffersFault, ClausesFault};
 ghost use Rattle.erl_syntax.specs.declared.module.Name.{Name};
 
 use crate::calls::is_spelled;
+use crate::index::Indexed;
 use crate::order::{fault_if, first_of};
 use erl_syntax::{CheckCause, CheckFault, Clause, Function, Head, Module, Name};
 
@@ -40,29 +40,14 @@ pub(crate) fn heads_fault(heads: &[Head]) -> Option<CheckFault>
     }
 }
 
-/// Whether one of the functions is exported.
-fn has_exported(functions: &[Function], export: &Name) -> bool
-    ensures { MatchBool result ((f : Function) × (Contains functions.now f × IsExportOf export.now f)) ((f : Function) × (Contains functions.now f × IsExportOf export.now f) → ⊥) }
-{
-    functions.iter().any(|function| function.name == export.name
-        && function.arity as i128 == export.arity)
-}
-
-/// Whether the module has no function of an exported name.
-fn is_missing(tree: &Module, export: &Name) -> bool
-    ensures { MatchBool result (IsMissing tree.now export.now) (IsMissing tree.now export.now → ⊥) }
-{
-    !has_exported(tree.functions.items(), export)
-}
-
 /// The first export of no function.
-pub(crate) fn exports_fault(tree: &Module) -> Option<CheckFault>
+pub(crate) fn exports_fault(tree: &Indexed) -> Option<CheckFault>
     ensures { IsLeast (Some_of (ExportFault tree.now) tree.now.exports) result }
 {
     let mut best = None;
-    let exports = tree.exports.items();
+    let exports = tree.module().exports.items();
     for export in exports {
-        let missing = is_missing(tree, export);
+        let missing = tree.is_missing(export);
         best = first_of(
             best,
             fault_if(missing, export.at, CheckCause::ExportMissing),
@@ -123,21 +108,14 @@ fn differs_fault(function: &Function, clauses: &[Clause]) -> Option<CheckFault>
     best
 }
 
-/// Whether one of the functions has this name and number of arguments.
-fn is_among(functions: &[Function], name: u32, arity: u32) -> bool
-    ensures { MatchBool result (IsAmong functions.now name arity) (IsAmong functions.now name arity → ⊥) }
-{
-    functions.iter().any(|function| function.name == name && function.arity == arity)
-}
-
-/// The first fault of a function's heads, where these functions stand before it.
-pub(crate) fn clauses_fault(before: &[Function], function: &Function) -> Option<CheckFault>
-    ensures { IsLeast (ClausesFault before.now function.now function.now.clauses) result }
+/// The first fault of the heads of the function at this place among the module's.
+pub(crate) fn clauses_fault(tree: &Indexed, place: usize, function: &Function) -> Option<CheckFault>
+    ensures { IsLeast (ClausesFault (take place tree.now.functions) function.now function.now.clauses) result }
 {
     match function.clauses.items() {
         [] => None,
         [first, others @ ..] => {
-            let again = is_among(before, function.name, function.arity);
+            let again = tree.stands_before(place, function.name, function.arity as usize);
             let again = fault_if(again, first.at, CheckCause::FunctionAgain);
             first_of(again, differs_fault(function, others))
         }

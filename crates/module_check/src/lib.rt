@@ -5,6 +5,7 @@ mod built_ins;
 mod calls;
 mod checking;
 mod forms;
+mod index;
 mod names;
 mod order;
 mod own;

@@ -12,10 +12,11 @@ ghost use Rattle.module_check.specs.Tasks.{Means, Fits};
 ghost use Rattle.module_check.specs.Faults.{UnsafeFault, ReadFault, ExprFault, PatternFault, TargetFault, TypeFault, SegmentFault, Own};
 
 use crate::calls::call_fault;
+use crate::index::Indexed;
 use crate::order::{fault_if, first_of};
 use crate::scopes::{Node, find};
 use crate::tasks::{Part, Setting, Task};
-use erl_syntax::{CheckCause, CheckFault, Expr, Module, Pattern, Segment, SideUse, Span};
+use erl_syntax::{CheckCause, CheckFault, Expr, Pattern, Segment, SideUse, Span};
 use segment_type::type_segment;
 
 /// Whether the name stands at the node or behind it.
@@ -53,7 +54,7 @@ fn read_fault(nodes: &[Node], setting: Setting, at: Span, name: &[u8]) -> Option
     first_of(unbound, unsafe_fault(nodes, setting.dangers, at, name))
 }
 
-fn expr_fault(tree: &Module, nodes: &[Node], setting: Setting, expr: &Expr) -> Option<CheckFault>
+fn expr_fault(tree: &Indexed, nodes: &[Node], setting: Setting, expr: &Expr) -> Option<CheckFault>
     ensures { (s : Scope) → Means nodes.now setting s → IsLeast (ExprFault tree.now s (out-Expr expr.now)) result }
 {
     match expr {
@@ -121,7 +122,7 @@ fn segment_fault(
 }
 
 /// The first fault of the part of a task by itself.
-pub(crate) fn own_fault(tree: &Module, nodes: &[Node], task: Task) -> Option<CheckFault>
+pub(crate) fn own_fault(tree: &Indexed, nodes: &[Node], task: Task) -> Option<CheckFault>
     ensures { (d : Spot) → Fits nodes.now task.entry d → IsLeast (Own tree.now d.scope d.part) result }
 {
     let setting = task.setting;
