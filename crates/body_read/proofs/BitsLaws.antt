@@ -32,7 +32,7 @@ no_bits_forth l c at e d gs j w h (expands _ (no_bits c_0 at_0 e_0 d_0 q0 q1) (t
 no_bits_forth l c at e d gs j w h (expands _ (bits_prefixed c_0 at_0 e_0 d_0 sg ds sgs dss q0 q1 q2) (expands _ (prefixed c_1 sg_1 d_1 t op ay y dy q3 q4) (this z))) = absurd (no_prefix (ap prefix_of h) q3)
 no_bits_forth l c at e d gs j w h (expands _ (bits_first c_0 at_0 e_0 d_0 ay y dy q0) z) = absurd (no_value_is refl h (first_value l (inside (under c)) ay y dy (Of (AfterValue c at ay y dy e d) ∷ gs) j w z))
 
-pub on_no_bits : (c : Context) (at : Span) (j : Word) (rest : List Word) → j.kind ≡ k.RightBits → Passes {X = Expr × ℕ} closed (bits_in c at) (j ∷ rest) nothing rest (λ u. (x.Bits at [], 1))
+pub on_no_bits : {most : Limits} (c : Context) (at : Span) (j : Word) (rest : List Word) → j.kind ≡ k.RightBits → Passes most {X = Expr × ℕ} closed (bits_in c at) (j ∷ rest) nothing rest (λ u. (x.Bits at [], 1))
 on_no_bits c at j rest h = record {
   front = j ∷ [];
   whole = refl;
@@ -59,8 +59,8 @@ signed_by : (l : Limits) (c : Context) (at : Span) (e : Expr) (d : ℕ) (gs : Li
 signed_by l c at e d gs j rest [] op h s z = absurd s
 signed_by l c at e d gs j rest (t ∷ w) op h s z = signed_forth l c at e d gs t w op (ap (λ v. prefix_of v.kind) s ∙ h) z
 
-pub on_signed_bits : (c : Context) (at : Span) (j : Word) (rest : List Word) (op : Prefix) → prefix_of j.kind ≡ Some op → c.deep + 1 ≤ 256 →
-    Passes {X = Expr × ℕ} {Y = (Segment × ℕ) × (List Segment × ℕ)} closed (bits_in c at) (j ∷ rest) (λ p. prefixed_in (inside (under c)) p.0 ++ more_segments_in (inside (under c)) p.1) (j ∷ rest) (with_segments at)
+pub on_signed_bits : {most : Limits} (c : Context) (at : Span) (j : Word) (rest : List Word) (op : Prefix) → prefix_of j.kind ≡ Some op → c.deep + 1 ≤ most.trees →
+    Passes most {X = Expr × ℕ} {Y = (Segment × ℕ) × (List Segment × ℕ)} closed (bits_in c at) (j ∷ rest) (λ p. prefixed_in (inside (under c)) p.0 ++ more_segments_in (inside (under c)) p.1) (j ∷ rest) (with_segments at)
 on_signed_bits c at j rest op h b = record {
   front = [];
   whole = refl;
@@ -68,26 +68,26 @@ on_signed_bits c at j rest op h b = record {
   forth = λ l r gs w f s d. let m = signed_by l c at r.0 r.1 gs j rest w op h s d in (m.0, same_pair m.1 m.2, m.3);
 }
 
-stops_signed_bits : (c : Context) (at : Span) (j : Word) (rest : List Word) (op : Prefix) → prefix_of j.kind ≡ Some op → 256 < c.deep + 2 → (l : Limits) → l.trees ≡ 256 → (r : Expr × ℕ) (gs : List Goal) (w : List Word) → SameHead w (j ∷ rest) → Spells l (bits_in c at r ++ gs) w → ⊥
-stops_signed_bits c at j rest op h b l i r gs [] s d = s
-stops_signed_bits c at j rest op h b l i r gs (t ∷ w) s d =
+stops_signed_bits : (most : Limits) (c : Context) (at : Span) (j : Word) (rest : List Word) (op : Prefix) → prefix_of j.kind ≡ Some op → most.trees < c.deep + 2 → (l : Limits) → l.trees ≡ most.trees → (r : Expr × ℕ) (gs : List Goal) (w : List Word) → SameHead w (j ∷ rest) → Spells l (bits_in c at r ++ gs) w → ⊥
+stops_signed_bits most c at j rest op h b l i r gs [] s d = s
+stops_signed_bits most c at j rest op h b l i r gs (t ∷ w) s d =
     let o : prefix_of t.kind ≡ Some op = ap (λ v. prefix_of v.kind) s ∙ h in
     let m = signed_forth l c at r.0 r.1 gs t w op o d in
     let n = prefixed_forth l (inside (under c)) m.0.0.0 m.0.0.1 (Of (MoreSegments (inside (under c)) m.0.1.0 m.0.1.1) ∷ gs) t w op o m.3 in
     let a : c.deep + 1 + 1 ≤ l.trees = n.0 in omega arith
 
 -- with room for one more level the operator, a variable and `>>` go on
-pub signed_bits_deep : (c : Context) (at : Span) (j : Word) (rest : List Word) (op : Prefix) → prefix_of j.kind ≡ Some op → 256 < c.deep + 2 → IsRefused {X = Expr × ℕ} closed (bits_in c at) (j ∷ rest) (j ∷ rest) TooDeep
-signed_bits_deep c at j rest op h b = record {
+pub signed_bits_deep : {most : Limits} (c : Context) (at : Span) (j : Word) (rest : List Word) (op : Prefix) → prefix_of j.kind ≡ Some op → most.trees < c.deep + 2 → IsRefused most {X = Expr × ℕ} closed (bits_in c at) (j ∷ rest) (j ∷ rest) TooDeep
+signed_bits_deep {most = most} c at j rest op h b = record {
   front = [];
   whole = refl;
   tree = (x.Bits at [], 1);
   more = mark_word k.RightBits ∷ [];
   goes_on = λ l v gs w d. bits_empty l c at gs w d;
-  stops = λ l i r gs w f s d. stops_signed_bits c at j rest op h b l i.trees r gs w s d;
+  stops = λ l i r gs w f s d. stops_signed_bits most c at j rest op h b l i.trees r gs w s d;
   excused = record {
-    limits = deeper (c.deep + 2) 0;
-    wide = deeper_wide (c.deep + 2) 0;
+    limits = deeper most (c.deep + 2) 0;
+    wide = deeper_wide most (c.deep + 2) 0;
     allows = (refl, refl);
     first = j;
     behind = rest;
@@ -95,10 +95,10 @@ signed_bits_deep c at j rest op h b = record {
     tree = (x.Bits at (record { at = j.at; value = x.Unary j.at op (x.Var some_place [] ∷ []); size = None; specs = [] } ∷ []), max 2 0 + 1);
     more = some_word ∷ (mark_word k.RightBits ∷ []);
     goes_on = λ gs w d.
-        let one : c.deep + 1 ≤ 256 + (c.deep + 2) = omega arith in
-        let two : c.deep + 1 + 1 ≤ 256 + (c.deep + 2) = omega arith in
+        let one : c.deep + 1 ≤ most.trees + (c.deep + 2) = omega arith in
+        let two : c.deep + 1 + 1 ≤ most.trees + (c.deep + 2) = omega arith in
         expands _ (bits_prefixed c at _ _ _ 2 [] 0 one refl refl) (expands _ (prefixed (inside (under c)) _ _ j op some_place (x.Var some_place []) 1 h two)
-        (this (value_spelled (deeper (c.deep + 2) 0) (under (inside (under c))) _ _ (expands _ (unsized (inside (under c)) _ _ _ _ _ refl) (expands _ (untyped _ _ _ _ refl)
+        (this (value_spelled (deeper most (c.deep + 2) 0) (under (inside (under c))) _ _ (expands _ (unsized (inside (under c)) _ _ _ _ _ refl) (expands _ (untyped _ _ _ _ refl)
         (expands _ (end_segments (inside (under c)) 0 refl) (takes (mark_word k.RightBits) refl d)))))));
   };
 }
@@ -113,8 +113,8 @@ first_value_forth l c at e d gs _ w (no_mark j rest m) n s (expands _ (no_bits c
 first_value_forth l c at e d gs _ w m no_prefix_end s (expands _ (bits_prefixed c_0 at_0 e_0 d_0 sg ds sgs dss q0 q1 q2) (expands _ (prefixed c_1 sg_1 d_1 t op ay y dy q3 q4) (this z))) = absurd s
 first_value_forth l c at e d gs _ w m (no_prefix_word j rest n) s (expands _ (bits_prefixed c_0 at_0 e_0 d_0 sg ds sgs dss q0 q1 q2) (expands _ (prefixed c_1 sg_1 d_1 t op ay y dy q3 q4) (this z))) = absurd (no_prefix n (ap (λ v. prefix_of v.kind) (sym s) ∙ q3))
 
-pub on_bits_value : (c : Context) (at : Span) (rest : List Word) → c.deep + 1 ≤ 256 → NoMark k.RightBits rest → NoPrefix rest →
-    Passes {X = Expr × ℕ} {Y = Placed Expr × (Expr × ℕ)} closed (bits_in c at) rest (λ p. simple_in (inside (under c)) p.0 ++ after_value_in c at p.0 p.1) rest (λ p. p.1)
+pub on_bits_value : {most : Limits} (c : Context) (at : Span) (rest : List Word) → c.deep + 1 ≤ most.trees → NoMark k.RightBits rest → NoPrefix rest →
+    Passes most {X = Expr × ℕ} {Y = Placed Expr × (Expr × ℕ)} closed (bits_in c at) rest (λ p. simple_in (inside (under c)) p.0 ++ after_value_in c at p.0 p.1) rest (λ p. p.1)
 on_bits_value c at rest b m n = record {
   front = [];
   whole = refl;
@@ -126,39 +126,39 @@ closed_value : (l : Limits) (c : Context) (at : Span) (y : Placed Expr) (gs : Li
 closed_value l c at y gs w d = expands _ (bits_segments c at _ _ _ _ _ _ y.height [] 0 refl refl) (expands _ (unsized (inside (under c)) _ _ _ _ _ refl) (expands _ (untyped _ _ _ _ refl) (expands _ (end_segments (inside (under c)) 0 refl) (takes (mark_word k.RightBits) refl d))))
 
 -- what goes on with `>>` behind a first value
-pub value_completed : (c : Context) (at : Span) → Spelled {X = Placed Expr} {Y = Expr × ℕ} (after_value_in c at) (mark_word k.RightBits ∷ [])
+pub value_completed : {most : Limits} (c : Context) (at : Span) → Spelled most {X = Placed Expr} {Y = Expr × ℕ} (after_value_in c at) (mark_word k.RightBits ∷ [])
 value_completed c at = record { tree = λ y. (x.Bits at (record { at = y.at; value = y.tree; size = None; specs = [] } ∷ []), max y.height 0 + 1); spelled = λ l v y gs w d. closed_value l c at y gs w d }
 
-stops_value : (c : Context) (at : Span) (rest : List Word) → 256 < c.deep + 1 → NoMark k.RightBits rest → NoPrefix rest → (l : Limits) → l.trees ≡ 256 → (r : Expr × ℕ) (gs : List Goal) (w : List Word) → SameHead w rest → Spells l (bits_in c at r ++ gs) w → ⊥
-stops_value c at rest b m n l i r gs w s d = let q = first_value_forth l c at r.0 r.1 gs rest w m n s d in let a : c.deep + 1 ≤ l.trees = q.0 in omega arith
+stops_value : (most : Limits) (c : Context) (at : Span) (rest : List Word) → most.trees < c.deep + 1 → NoMark k.RightBits rest → NoPrefix rest → (l : Limits) → l.trees ≡ most.trees → (r : Expr × ℕ) (gs : List Goal) (w : List Word) → SameHead w rest → Spells l (bits_in c at r ++ gs) w → ⊥
+stops_value most c at rest b m n l i r gs w s d = let q = first_value_forth l c at r.0 r.1 gs rest w m n s d in let a : c.deep + 1 ≤ l.trees = q.0 in omega arith
 
 -- A token with which a value begins, at limits where it fits.
-record Begun (c : Context) (j : Word) : Type 0 where
+record Begun (most : Limits) (c : Context) (j : Word) : Type 0 where
   pub tree : Placed Expr
   pub more : List Word
-  pub spelled : (gs : List Goal) (w : List Word) → Spells (deeper (c.deep + 1) (c.open_ + 1)) gs w → Spells (deeper (c.deep + 1) (c.open_ + 1)) (simple_in c tree ++ gs) (j ∷ (more ++ w))
+  pub spelled : (gs : List Goal) (w : List Word) → Spells (deeper most (c.deep + 1) (c.open_ + 1)) gs w → Spells (deeper most (c.deep + 1) (c.open_ + 1)) (simple_in c tree ++ gs) (j ∷ (more ++ w))
 
-begun : (c : Context) (j : Word) (kind : TokenKind) → (c.mode ≡ InSize → ⊥) → j.kind ≡ kind → IsTrue (begins_simple kind) → Begun c j
-begun c j k.Atom m h b = record { tree = record { at = j.at; tree = x.Atom j.at j.number; height = 1 }; more = []; spelled = λ gs w d. expands _ (simple_atom c _ _ _ j h refl refl refl) (this d) }
-begun c j k.Variable m h b = record { tree = record { at = j.at; tree = x.Var j.at j.chars; height = 1 }; more = []; spelled = λ gs w d. expands _ (simple c _ _ _) (expands _ (variable c _ _ _ j h refl refl refl) (this d)) }
-begun c j k.Integer m h b = record { tree = record { at = j.at; tree = x.Int j.at (pos j.number); height = 1 }; more = []; spelled = λ gs w d. expands _ (simple c _ _ _) (expands _ (integer c _ _ _ j h refl refl refl) (this d)) }
-begun c j k.Character m h b = record { tree = record { at = j.at; tree = x.Char j.at j.number; height = 1 }; more = []; spelled = λ gs w d. expands _ (simple c _ _ _) (expands _ (character c _ _ _ j h refl refl refl) (this d)) }
-begun c j k.Str m h b = record { tree = record { at = j.at; tree = x.Str j.at j.chars; height = 1 }; more = []; spelled = λ gs w d. expands _ (simple c _ _ _) (expands _ (string c _ _ _ j m h refl refl refl) (this d)) }
-begun c j k.LeftBits m h b = record { tree = record { at = j.at; tree = x.Bits j.at []; height = 1 }; more = mark_word k.RightBits ∷ []; spelled = λ gs w d. expands _ (simple c _ _ _) (expands _ (bits c _ _ _ m (omega arith)) (begins j h refl (bits_empty (deeper (c.deep + 1) (c.open_ + 1)) c j.at gs w d))) }
-begun c j k.LeftParen m h b = record { tree = record { at = j.at; tree = x.Var some_place []; height = 1 }; more = some_word ∷ (close_paren ∷ []); spelled = λ gs w d. expands _ (simple c _ _ _) (expands _ (paren c _ _ _ some_place (omega arith)) (begins j h refl (level_completed 0 (deeper (c.deep + 1) (c.open_ + 1)) (inside c) (Mark k.RightParen ∷ gs) (close_paren ∷ w) (takes close_paren refl d)))) }
-begun c j _ m h b = cc
+begun : {most : Limits} (c : Context) (j : Word) (kind : TokenKind) → (c.mode ≡ InSize → ⊥) → j.kind ≡ kind → IsTrue (begins_simple kind) → Begun most c j
+begun {most = most} c j k.Atom m h b = record { tree = record { at = j.at; tree = x.Atom j.at j.number; height = 1 }; more = []; spelled = λ gs w d. expands _ (simple_atom c _ _ _ j h refl refl refl) (this d) }
+begun {most = most} c j k.Variable m h b = record { tree = record { at = j.at; tree = x.Var j.at j.chars; height = 1 }; more = []; spelled = λ gs w d. expands _ (simple c _ _ _) (expands _ (variable c _ _ _ j h refl refl refl) (this d)) }
+begun {most = most} c j k.Integer m h b = record { tree = record { at = j.at; tree = x.Int j.at (pos j.number); height = 1 }; more = []; spelled = λ gs w d. expands _ (simple c _ _ _) (expands _ (integer c _ _ _ j h refl refl refl) (this d)) }
+begun {most = most} c j k.Character m h b = record { tree = record { at = j.at; tree = x.Char j.at j.number; height = 1 }; more = []; spelled = λ gs w d. expands _ (simple c _ _ _) (expands _ (character c _ _ _ j h refl refl refl) (this d)) }
+begun {most = most} c j k.Str m h b = record { tree = record { at = j.at; tree = x.Str j.at j.chars; height = 1 }; more = []; spelled = λ gs w d. expands _ (simple c _ _ _) (expands _ (string c _ _ _ j m h refl refl refl) (this d)) }
+begun {most = most} c j k.LeftBits m h b = record { tree = record { at = j.at; tree = x.Bits j.at []; height = 1 }; more = mark_word k.RightBits ∷ []; spelled = λ gs w d. expands _ (simple c _ _ _) (expands _ (bits c _ _ _ m (omega arith)) (begins j h refl (bits_empty (deeper most (c.deep + 1) (c.open_ + 1)) c j.at gs w d))) }
+begun {most = most} c j k.LeftParen m h b = record { tree = record { at = j.at; tree = x.Var some_place []; height = 1 }; more = some_word ∷ (close_paren ∷ []); spelled = λ gs w d. expands _ (simple c _ _ _) (expands _ (paren c _ _ _ some_place (omega arith)) (begins j h refl (level_completed 0 (deeper most (c.deep + 1) (c.open_ + 1)) (inside c) (Mark k.RightParen ∷ gs) (close_paren ∷ w) (takes close_paren refl d)))) }
+begun {most = most} c j _ m h b = cc
 
-pub value_too_deep : (c : Context) (at : Span) (j : Word) (rest : List Word) → (c.mode ≡ InSize → ⊥) → 256 < c.deep + 1 → NoMark k.RightBits (j ∷ rest) → NoPrefix (j ∷ rest) → IsTrue (begins_simple j.kind) → IsRefused {X = Expr × ℕ} closed (bits_in c at) (j ∷ rest) (j ∷ rest) TooDeep
-value_too_deep c at j rest i b m n v = let g : Begun (inside (under c)) j = begun (inside (under c)) j j.kind i refl v in record {
+pub value_too_deep : {most : Limits} (c : Context) (at : Span) (j : Word) (rest : List Word) → (c.mode ≡ InSize → ⊥) → most.trees < c.deep + 1 → NoMark k.RightBits (j ∷ rest) → NoPrefix (j ∷ rest) → IsTrue (begins_simple j.kind) → IsRefused most {X = Expr × ℕ} closed (bits_in c at) (j ∷ rest) (j ∷ rest) TooDeep
+value_too_deep {most = most} c at j rest i b m n v = let g : Begun most (inside (under c)) j = begun (inside (under c)) j j.kind i refl v in record {
   front = [];
   whole = refl;
   tree = (x.Bits at [], 1);
   more = mark_word k.RightBits ∷ [];
   goes_on = λ l v gs w d. bits_empty l c at gs w d;
-  stops = λ l i r gs w f s d. stops_value c at (j ∷ rest) b m n l i.trees r gs w s d;
+  stops = λ l i r gs w f s d. stops_value most c at (j ∷ rest) b m n l i.trees r gs w s d;
   excused = record {
-    limits = deeper (c.deep + 1 + 1) (c.open_ + 1 + 1);
-    wide = deeper_wide (c.deep + 1 + 1) (c.open_ + 1 + 1);
+    limits = deeper most (c.deep + 1 + 1) (c.open_ + 1 + 1);
+    wide = deeper_wide most (c.deep + 1 + 1) (c.open_ + 1 + 1);
     allows = (refl, refl);
     first = j;
     behind = rest;
@@ -166,10 +166,10 @@ value_too_deep c at j rest i b m n v = let g : Begun (inside (under c)) j = begu
     tree = (x.Bits at (record { at = g.tree.at; value = g.tree.tree; size = None; specs = [] } ∷ []), max g.tree.height 0 + 1);
     more = g.more ++ (mark_word k.RightBits ∷ []);
     goes_on = λ gs w d.
-        let one : c.deep + 1 ≤ 256 + (c.deep + 1 + 1) = omega arith in
+        let one : c.deep + 1 ≤ most.trees + (c.deep + 1 + 1) = omega arith in
         expands _ (bits_first c at _ _ g.tree.at g.tree.tree g.tree.height one)
         (spells_at (ap (λ v. j ∷ v) (sym (append_assoc g.more (mark_word k.RightBits ∷ []) w)))
-        (g.spelled _ _ (closed_value (deeper (c.deep + 1 + 1) (c.open_ + 1 + 1)) c at g.tree gs w d)));
+        (g.spelled _ _ (closed_value (deeper most (c.deep + 1 + 1) (c.open_ + 1 + 1)) c at g.tree gs w d)));
   };
 }
 
@@ -184,7 +184,7 @@ end_forth : (l : Limits) (c : Context) (at : Span) (e : Expr) (d : ℕ) (gs : Li
 end_forth l c at e d gs [] s z = value_ends l c at e d gs z
 end_forth l c at e d gs (t ∷ w) s z = s
 
-pub no_value_there : (c : Context) (at : Span) (j : Word) (rest : List Word) → NoMark k.RightBits (j ∷ rest) → NoPrefix (j ∷ rest) → begins_simple j.kind ≡ false → IsRefused {X = Expr × ℕ} closed (bits_in c at) (j ∷ rest) (j ∷ rest) Syntax
+pub no_value_there : {most : Limits} (c : Context) (at : Span) (j : Word) (rest : List Word) → NoMark k.RightBits (j ∷ rest) → NoPrefix (j ∷ rest) → begins_simple j.kind ≡ false → IsRefused most {X = Expr × ℕ} closed (bits_in c at) (j ∷ rest) (j ∷ rest) Syntax
 no_value_there c at j rest m n v = record {
   front = [];
   whole = refl;
@@ -195,7 +195,7 @@ no_value_there c at j rest m n v = record {
   excused = tt;
 }
 
-pub no_value_at_end : (c : Context) (at : Span) → NoMark k.RightBits [] → NoPrefix [] → IsRefused {X = Expr × ℕ} closed (bits_in c at) [] [] Syntax
+pub no_value_at_end : {most : Limits} (c : Context) (at : Span) → NoMark k.RightBits [] → NoPrefix [] → IsRefused most {X = Expr × ℕ} closed (bits_in c at) [] [] Syntax
 no_value_at_end c at m n = record {
   front = [];
   whole = refl;
@@ -213,7 +213,7 @@ comma_forth : (l : Limits) (c : Context) (sgs : List Segment) (d : ℕ) (gs : Li
 comma_forth l c _ d gs j w h (expands _ (more_segments c_0 sg ds sgs dss d_0 q0) (takes t kk z)) = (((sg, ds), (sgs, dss)), refl, q0, z)
 comma_forth l c _ d gs j w h (expands _ (end_segments c_0 d_0 q0) (takes t kk z)) = cc
 
-pub on_more_segments : (c : Context) (j : Word) (rest : List Word) → j.kind ≡ k.Comma → Passes {X = List Segment × ℕ} {Y = (Segment × ℕ) × (List Segment × ℕ)} closed (more_segments_in c) (j ∷ rest) (λ p. segment_in c p.0 ++ more_segments_in c p.1) rest (λ p. (p.0.0 ∷ p.1.0, max p.0.1 p.1.1))
+pub on_more_segments : {most : Limits} (c : Context) (j : Word) (rest : List Word) → j.kind ≡ k.Comma → Passes most {X = List Segment × ℕ} {Y = (Segment × ℕ) × (List Segment × ℕ)} closed (more_segments_in c) (j ∷ rest) (λ p. segment_in c p.0 ++ more_segments_in c p.1) rest (λ p. (p.0.0 ∷ p.1.0, max p.0.1 p.1.1))
 on_more_segments c j rest h = record {
   front = j ∷ [];
   whole = refl;
@@ -225,7 +225,7 @@ close_forth : (l : Limits) (c : Context) (sgs : List Segment) (d : ℕ) (gs : Li
 close_forth l c _ d gs j w h (expands _ (more_segments c_0 sg ds sgs dss d_0 q0) (takes t kk z)) = cc
 close_forth l c _ d gs j w h (expands _ (end_segments c_0 d_0 q0) (takes t kk z)) = (refl, q0, z)
 
-pub on_end_segments : (c : Context) (j : Word) (rest : List Word) → j.kind ≡ k.RightBits → Passes {X = List Segment × ℕ} closed (more_segments_in c) (j ∷ rest) nothing rest (λ u. ([], 0))
+pub on_end_segments : {most : Limits} (c : Context) (j : Word) (rest : List Word) → j.kind ≡ k.RightBits → Passes most {X = List Segment × ℕ} closed (more_segments_in c) (j ∷ rest) nothing rest (λ u. ([], 0))
 on_end_segments c j rest h = record {
   front = j ∷ [];
   whole = refl;
@@ -239,7 +239,7 @@ segments_stop l c _ d gs _ w (no_mark j rest a) b s (expands _ (more_segments c_
 segments_stop l c _ d gs _ w a no_mark_end s (expands _ (end_segments c_0 d_0 q0) (takes t kk z)) = s
 segments_stop l c _ d gs _ w a (no_mark j rest b) s (expands _ (end_segments c_0 d_0 q0) (takes t kk z)) = b (ap (λ v. v.kind) (sym s) ∙ kk)
 
-pub segments_refused : (c : Context) (rest : List Word) → NoMark k.Comma rest → NoMark k.RightBits rest → IsRefused {X = List Segment × ℕ} closed (more_segments_in c) rest rest Syntax
+pub segments_refused : {most : Limits} (c : Context) (rest : List Word) → NoMark k.Comma rest → NoMark k.RightBits rest → IsRefused most {X = List Segment × ℕ} closed (more_segments_in c) rest rest Syntax
 segments_refused c rest a b = record {
   front = [];
   whole = refl;
@@ -257,7 +257,7 @@ segments_lengthen l c _ d gs j w h (expands _ (end_segments c_0 d_0 q0) (takes t
 pub behind_segment : (c : Context) → Behind {X = Segment × ℕ} {Y = List Segment × ℕ} segment_longer closed (λ p. more_segments_in c)
 behind_segment c = record { behind = λ l p q gs f t w h d. segments_lengthen l c q.0 q.1 gs t w h d }
 
-pub segments_spelled : (c : Context) → Spelled {X = Segment × ℕ} {Y = List Segment × ℕ} (λ p. more_segments_in c) (mark_word k.RightBits ∷ [])
+pub segments_spelled : {most : Limits} (c : Context) → Spelled most {X = Segment × ℕ} {Y = List Segment × ℕ} (λ p. more_segments_in c) (mark_word k.RightBits ∷ [])
 segments_spelled c = record { tree = λ p. ([], 0); spelled = λ l v p gs w d. expands _ (end_segments c 0 refl) (takes (mark_word k.RightBits) refl d) }
 
 -- ---- Behind a first value
@@ -276,8 +276,8 @@ row_forth : (l : Limits) (c : Context) (at ay : Span) (y : Expr) (dy : ℕ) (e :
 row_forth l c at ay y dy e d gs j w h (expands _ (bits_for c_0 at_0 ay_0 y_0 dy_0 e_0 d_0 qs dq q0 q1 q2) (takes t kk z)) = ((qs, dq), q1, q2, z)
 row_forth l c at ay y dy e d gs j w h (expands _ (bits_segments c_0 at_0 ay_0 y_0 dy_0 e_0 d_0 sg ds sgs dss q0 q1) z) = absurd (no_bar_rest l (inside (under c)) ay y dy sg ds sgs dss gs j w h z)
 
-pub on_bits_row : (c : Context) (at : Span) (y : Placed Expr) (j : Word) (rest : List Word) → c.mode ≡ InBody → j.kind ≡ k.DoubleBar →
-    Passes {X = Expr × ℕ} {Y = List Qual × ℕ} closed (after_value_in c at y) (j ∷ rest) (quals_in k.RightBits (inside (under c))) rest (λ r. (x.BitsFor at (y.tree ∷ []) r.0, max y.height r.1 + 1))
+pub on_bits_row : {most : Limits} (c : Context) (at : Span) (y : Placed Expr) (j : Word) (rest : List Word) → c.mode ≡ InBody → j.kind ≡ k.DoubleBar →
+    Passes most {X = Expr × ℕ} {Y = List Qual × ℕ} closed (after_value_in c at y) (j ∷ rest) (quals_in k.RightBits (inside (under c))) rest (λ r. (x.BitsFor at (y.tree ∷ []) r.0, max y.height r.1 + 1))
 on_bits_row c at y j rest m h = record {
   front = j ∷ [];
   whole = refl;
@@ -294,8 +294,8 @@ segments_forth : (l : Limits) (c : Context) (at ay : Span) (y : Expr) (dy : ℕ)
 segments_forth l c at ay y dy e d gs rest w n s (expands _ (bits_segments c_0 at_0 ay_0 y_0 dy_0 e_0 d_0 sg ds sgs dss q0 q1) z) = (((sg, ds), (sgs, dss)), q0, q1, z)
 segments_forth l c at ay y dy e d gs rest _ n s (expands _ (bits_for c_0 at_0 ay_0 y_0 dy_0 e_0 d_0 qs dq q0 q1 q2) (takes {w = u} t kk z)) = absurd (no_bar_head rest t u (n q0) s kk)
 
-pub on_bits_segments : (c : Context) (at : Span) (y : Placed Expr) (rest : List Word) → NoRow c.mode rest →
-    Passes {X = Expr × ℕ} {Y = (Segment × ℕ) × (List Segment × ℕ)} closed (after_value_in c at y) rest (λ p. segment_rest_in (inside (under c)) y p.0 ++ more_segments_in (inside (under c)) p.1) rest (with_segments at)
+pub on_bits_segments : {most : Limits} (c : Context) (at : Span) (y : Placed Expr) (rest : List Word) → NoRow c.mode rest →
+    Passes most {X = Expr × ℕ} {Y = (Segment × ℕ) × (List Segment × ℕ)} closed (after_value_in c at y) rest (λ p. segment_rest_in (inside (under c)) y p.0 ++ more_segments_in (inside (under c)) p.1) rest (with_segments at)
 on_bits_segments c at y rest n = record {
   front = [];
   whole = refl;

@@ -30,6 +30,7 @@ use Rattle.pattern_read.proofs.Passing.{spells_at}
 use Rattle.pattern_read.proofs.Operands.{some_place, some_word, level_completed, level_with, operand_spells, deeper, deeper_wide, mark_word, close_paren, module_word}
 use Rattle.pattern_read.proofs.Calls.{level_ends}
 use Rattle.pattern_read.proofs.Depths.{Begun}
+use Rattle.pattern_read.specs.Source.{Readable}
 
 -- ---- How an expression begins
 
@@ -93,11 +94,11 @@ none_level l s n c at e d gs _ (t ∷ w) m (none_at j rest b) h z = not_both b (
 pub first_at_end : (s : Setting) (rest : List Word) → rest ≡ [] → FirstIn s rest Syntax
 first_at_end s rest e = let P : List Word → Type 0 = λ v. FirstIn s v Syntax in subst P (sym e) (none_first [] none_at_end)
 
-pub first_deep : (s : Setting) (all : List Word) (at : ℕ) (n : Numbered) → StandsAt all at n → begins_in s n.token.kind ≡ true → FirstIn s (drop at all) TooDeep
-first_deep s all at n w h = let P : List Word → Type 0 = λ v. FirstIn s v TooDeep in subst P (sym w.is) (only_deeper_in w.word (drop (at + 1) all) (ap (begins_in s) w.kind ∙ h))
+pub first_deep : (s : Setting) (all : Readable) (at : ℕ) (n : Numbered) → StandsAt all at n → begins_in s n.token.kind ≡ true → FirstIn s (drop at all.words) TooDeep
+first_deep s all at n w h = let P : List Word → Type 0 = λ v. FirstIn s v TooDeep in subst P (sym w.is) (only_deeper_in w.word (drop (at + 1) all.words) (ap (begins_in s) w.kind ∙ h))
 
-pub first_other : (s : Setting) (all : List Word) (at : ℕ) (n : Numbered) → StandsAt all at n → begins_in s n.token.kind ≡ false → FirstIn s (drop at all) Syntax
-first_other s all at n w h = let P : List Word → Type 0 = λ v. FirstIn s v Syntax in subst P (sym w.is) (none_first (w.word ∷ drop (at + 1) all) (none_at w.word (drop (at + 1) all) (ap (begins_in s) w.kind ∙ h)))
+pub first_other : (s : Setting) (all : Readable) (at : ℕ) (n : Numbered) → StandsAt all at n → begins_in s n.token.kind ≡ false → FirstIn s (drop at all.words) Syntax
+first_other s all at n w h = let P : List Word → Type 0 = λ v. FirstIn s v Syntax in subst P (sym w.is) (none_first (w.word ∷ drop (at + 1) all.words) (none_at w.word (drop (at + 1) all.words) (ap (begins_in s) w.kind ∙ h)))
 
 -- ---- Spellings of blocks
 
@@ -141,62 +142,62 @@ branches_spell l c gs w d =
 -- ---- A token with which an operand begins, at limits where it fits
 
 -- as a segment's value too
-pub record BegunCommon (c : Context) (j : Word) : Type 0 where
+pub record BegunCommon (most : Limits) (c : Context) (j : Word) : Type 0 where
   pub tree : Placed Expr
   pub more : List Word
-  pub spelled : (gs : List Goal) (w : List Word) → Spells (deeper (c.deep + 1) (c.open_ + 1)) gs w → Spells (deeper (c.deep + 1) (c.open_ + 1)) (common_in c tree ++ gs) (j ∷ (more ++ w))
+  pub spelled : (gs : List Goal) (w : List Word) → Spells (deeper most (c.deep + 1) (c.open_ + 1)) gs w → Spells (deeper most (c.deep + 1) (c.open_ + 1)) (common_in c tree ++ gs) (j ∷ (more ++ w))
 
-as_operand : (c : Context) (j : Word) → BegunCommon c j → Begun c j
+as_operand : {most : Limits} (c : Context) (j : Word) → BegunCommon most c j → Begun most c j
 as_operand c j g = record { tree = g.tree; more = g.more; spelled = λ gs w d. expands _ (common c _ _ _) (g.spelled gs w d) }
 
-pub begun_bits : (c : Context) (j : Word) → (c.mode ≡ InSize → ⊥) → j.kind ≡ k.LeftBits → BegunCommon c j
+pub begun_bits : {most : Limits} (c : Context) (j : Word) → (c.mode ≡ InSize → ⊥) → j.kind ≡ k.LeftBits → BegunCommon most c j
 begun_bits c j m h = record { tree = record { at = j.at; tree = x.Bits j.at []; height = 1 }; more = mark_word k.RightBits ∷ []; spelled = λ gs w d. expands _ (bits c j.at _ _ m (omega arith)) (begins j h refl (expands _ (no_bits c j.at _ _ refl refl) (takes (mark_word k.RightBits) refl d))) }
 
-pub begun_paren : (c : Context) (j : Word) → j.kind ≡ k.LeftParen → BegunCommon c j
-begun_paren c j h = record { tree = record { at = j.at; tree = x.Var some_place []; height = 1 }; more = some_word ∷ (close_paren ∷ []); spelled = λ gs w d. expands _ (paren c _ _ _ some_place (omega arith)) (begins j h refl (level_completed 0 (deeper (c.deep + 1) (c.open_ + 1)) (inside c) (Mark k.RightParen ∷ gs) (close_paren ∷ w) (takes close_paren refl d))) }
+pub begun_paren : {most : Limits} (c : Context) (j : Word) → j.kind ≡ k.LeftParen → BegunCommon most c j
+begun_paren {most = most} c j h = record { tree = record { at = j.at; tree = x.Var some_place []; height = 1 }; more = some_word ∷ (close_paren ∷ []); spelled = λ gs w d. expands _ (paren c _ _ _ some_place (omega arith)) (begins j h refl (level_completed 0 (deeper most (c.deep + 1) (c.open_ + 1)) (inside c) (Mark k.RightParen ∷ gs) (close_paren ∷ w) (takes close_paren refl d))) }
 
-begun_prefix : (c : Context) (j : Word) (op : Prefix) → prefix_of j.kind ≡ Some op → Begun c j
-begun_prefix c j op h = record {
+begun_prefix : {most : Limits} (c : Context) (j : Word) (op : Prefix) → prefix_of j.kind ≡ Some op → Begun most c j
+begun_prefix {most = most} c j op h = record {
   tree = record { at = j.at; tree = x.Unary j.at op (x.Var some_place [] ∷ []); height = 2 };
   more = some_word ∷ [];
-  spelled = λ gs w d. expands _ (prefix c _ _ _ j op some_place (x.Var some_place []) 1 h refl (omega arith) refl refl) (this (operand_spells (deeper (c.deep + 1) (c.open_ + 1)) (under c) gs w d));
+  spelled = λ gs w d. expands _ (prefix c _ _ _ j op some_place (x.Var some_place []) 1 h refl (omega arith) refl refl) (this (operand_spells (deeper most (c.deep + 1) (c.open_ + 1)) (under c) gs w d));
 }
 
-pub begun_tuple : (c : Context) (j : Word) → (c.mode ≡ InSize → ⊥) → j.kind ≡ k.LeftBrace → Begun c j
+pub begun_tuple : {most : Limits} (c : Context) (j : Word) → (c.mode ≡ InSize → ⊥) → j.kind ≡ k.LeftBrace → Begun most c j
 begun_tuple c j m h = record { tree = record { at = j.at; tree = x.Tuple j.at []; height = 1 }; more = mark_word k.RightBrace ∷ []; spelled = λ gs w d. expands _ (tuple c j.at _ _ [] 0 m (omega arith) refl refl) (begins j h refl (expands _ (no_exprs k.RightBrace (inside (under c)) 0 refl) (takes (mark_word k.RightBrace) refl d))) }
 
-pub begun_list : (c : Context) (j : Word) → (c.mode ≡ InSize → ⊥) → j.kind ≡ k.LeftBracket → Begun c j
+pub begun_list : {most : Limits} (c : Context) (j : Word) → (c.mode ≡ InSize → ⊥) → j.kind ≡ k.LeftBracket → Begun most c j
 begun_list c j m h = record { tree = record { at = j.at; tree = x.List j.at [] []; height = 1 }; more = mark_word k.RightBracket ∷ []; spelled = λ gs w d. expands _ (list c j.at _ _ m (omega arith)) (begins j h refl (expands _ (no_list c j.at _ _ refl refl) (takes (mark_word k.RightBracket) refl d))) }
 
-pub begun_case : (c : Context) (j : Word) → c.mode ≡ InBody → j.kind ≡ k.Case → Begun c j
-begun_case c j m h = record {
+pub begun_case : {most : Limits} (c : Context) (j : Word) → c.mode ≡ InBody → j.kind ≡ k.Case → Begun most c j
+begun_case {most = most} c j m h = record {
   tree = record { at = j.at; tree = x.Case j.at (x.Var some_place [] ∷ []) (some_alt ∷ []); height = 2 };
   more = some_word ∷ (mark_word k.Of ∷ clause_words []);
   spelled = λ gs w d. expands _ (case c j.at (x.Case j.at (x.Var some_place [] ∷ []) (some_alt ∷ [])) 2 some_place (x.Var some_place []) 1 (some_alt ∷ []) 1 m (omega arith) (omega arith) refl refl) (begins j h refl
-      (level_completed 0 (deeper (c.deep + 1) (c.open_ + 1)) (inside (under c)) (Mark k.Of ∷ Of (Alts (inside (under c)) (some_alt ∷ []) 1) ∷ gs) (mark_word k.Of ∷ clause_words w) (takes (mark_word k.Of) refl (alts_spell (deeper (c.deep + 1) (c.open_ + 1)) (inside (under c)) gs w d))));
+      (level_completed 0 (deeper most (c.deep + 1) (c.open_ + 1)) (inside (under c)) (Mark k.Of ∷ Of (Alts (inside (under c)) (some_alt ∷ []) 1) ∷ gs) (mark_word k.Of ∷ clause_words w) (takes (mark_word k.Of) refl (alts_spell (deeper most (c.deep + 1) (c.open_ + 1)) (inside (under c)) gs w d))));
 }
 
-pub begun_receive : (c : Context) (j : Word) → c.mode ≡ InBody → j.kind ≡ k.Receive → Begun c j
-begun_receive c j m h = record {
+pub begun_receive : {most : Limits} (c : Context) (j : Word) → c.mode ≡ InBody → j.kind ≡ k.Receive → Begun most c j
+begun_receive {most = most} c j m h = record {
   tree = record { at = j.at; tree = x.Receive j.at (some_alt ∷ []); height = 2 };
   more = clause_words [];
-  spelled = λ gs w d. expands _ (receive c j.at (x.Receive j.at (some_alt ∷ [])) 2 (some_alt ∷ []) 1 m (omega arith) (omega arith) refl refl) (begins j h refl (alts_spell (deeper (c.deep + 1) (c.open_ + 1)) (inside (under c)) gs w d));
+  spelled = λ gs w d. expands _ (receive c j.at (x.Receive j.at (some_alt ∷ [])) 2 (some_alt ∷ []) 1 m (omega arith) (omega arith) refl refl) (begins j h refl (alts_spell (deeper most (c.deep + 1) (c.open_ + 1)) (inside (under c)) gs w d));
 }
 
-pub begun_if : (c : Context) (j : Word) → c.mode ≡ InBody → j.kind ≡ k.If → Begun c j
-begun_if c j m h = record {
+pub begun_if : {most : Limits} (c : Context) (j : Word) → c.mode ≡ InBody → j.kind ≡ k.If → Begun most c j
+begun_if {most = most} c j m h = record {
   tree = record { at = j.at; tree = x.If j.at (some_branch ∷ []); height = 2 };
   more = clause_words [];
-  spelled = λ gs w d. expands _ (if_ c j.at (x.If j.at (some_branch ∷ [])) 2 (some_branch ∷ []) 1 m (omega arith) (omega arith) refl refl) (begins j h refl (branches_spell (deeper (c.deep + 1) (c.open_ + 1)) (inside (under c)) gs w d));
+  spelled = λ gs w d. expands _ (if_ c j.at (x.If j.at (some_branch ∷ [])) 2 (some_branch ∷ []) 1 m (omega arith) (omega arith) refl refl) (begins j h refl (branches_spell (deeper most (c.deep + 1) (c.open_ + 1)) (inside (under c)) gs w d));
 }
 
-pub begun_block : (c : Context) (j : Word) (kind : TokenKind) → c.mode ≡ InBody → j.kind ≡ kind → IsTrue (begins_block kind) → Begun c j
+pub begun_block : {most : Limits} (c : Context) (j : Word) (kind : TokenKind) → c.mode ≡ InBody → j.kind ≡ kind → IsTrue (begins_block kind) → Begun most c j
 begun_block c j k.Case m h b = begun_case c j m h
 begun_block c j k.Receive m h b = begun_receive c j m h
 begun_block c j k.If m h b = begun_if c j m h
 begun_block c j _ m h b = cc
 
-begun_guard : (c : Context) (j : Word) (kind : TokenKind) → (c.mode ≡ InSize → ⊥) → j.kind ≡ kind → IsTrue (begins_guard kind) → Begun c j
+begun_guard : {most : Limits} (c : Context) (j : Word) (kind : TokenKind) → (c.mode ≡ InSize → ⊥) → j.kind ≡ kind → IsTrue (begins_guard kind) → Begun most c j
 begun_guard c j k.Plus m h b = begun_prefix c j _ (ap prefix_of h)
 begun_guard c j k.Minus m h b = begun_prefix c j _ (ap prefix_of h)
 begun_guard c j k.Bnot m h b = begun_prefix c j _ (ap prefix_of h)
@@ -221,11 +222,11 @@ one_of : (a b : Bool) → IsTrue (if a then true else b) → IsTrue a ⊎ IsTrue
 one_of true b h = inl refl
 one_of false b h = inr h
 
-begun_body : (c : Context) (j : Word) → c.mode ≡ InBody → IsTrue (begins_block j.kind) ⊎ IsTrue (begins_guard j.kind) → Begun c j
+begun_body : {most : Limits} (c : Context) (j : Word) → c.mode ≡ InBody → IsTrue (begins_block j.kind) ⊎ IsTrue (begins_guard j.kind) → Begun most c j
 begun_body c j m (inl b) = begun_block c j j.kind m refl b
 begun_body c j m (inr b) = begun_guard c j j.kind (not_size AsBody c.mode m) refl b
 
-pub begun_in : (s : Setting) (c : Context) (j : Word) → c.mode ≡ mode_of s → IsTrue (begins_in s j.kind) → Begun c j
+pub begun_in : {most : Limits} (s : Setting) (c : Context) (j : Word) → c.mode ≡ mode_of s → IsTrue (begins_in s j.kind) → Begun most c j
 begun_in AsBody c j m b = begun_body c j m (one_of (begins_block j.kind) (begins_guard j.kind) b)
 begun_in AsGuard c j m b = begun_guard c j j.kind (not_size AsGuard c.mode m) refl b
 
@@ -235,21 +236,21 @@ exprs_depth : (l : Limits) (close : TokenKind) (c : Context) (ys : List Expr) (d
 exprs_depth l close c _ d gs j w n (expands _ (exprs close_0 c_0 ay y dy ys dys d_0 q0 q1) z) = q0
 exprs_depth l close c _ d gs j w n (expands _ (no_exprs close_0 c_0 d_0 q0) (takes t kk z)) = absurd (n kk)
 
-stops_exprs : (l : Limits) (close : TokenKind) (c : Context) (ys : List Expr) (d : ℕ) (gs : List Goal) (j : Word) (rest w : List Word) → (j.kind ≡ close → ⊥) → 256 < c.deep → l.trees ≡ 256 → SameHead w (j ∷ rest) → Spells l (Of (Exprs close c ys d) ∷ gs) w → ⊥
-stops_exprs l close c ys d gs j rest [] n b i s z = s
-stops_exprs l close c ys d gs j rest (t ∷ w) n b i s z = let a : c.deep ≤ l.trees = exprs_depth l close c ys d gs t w (λ e. n (ap (λ v. v.kind) (sym s) ∙ e)) z in omega arith
+stops_exprs : (most : Limits) (l : Limits) (close : TokenKind) (c : Context) (ys : List Expr) (d : ℕ) (gs : List Goal) (j : Word) (rest w : List Word) → (j.kind ≡ close → ⊥) → most.trees < c.deep → l.trees ≡ most.trees → SameHead w (j ∷ rest) → Spells l (Of (Exprs close c ys d) ∷ gs) w → ⊥
+stops_exprs most l close c ys d gs j rest [] n b i s z = s
+stops_exprs most l close c ys d gs j rest (t ∷ w) n b i s z = let a : c.deep ≤ l.trees = exprs_depth l close c ys d gs t w (λ e. n (ap (λ v. v.kind) (sym s) ∙ e)) z in omega arith
 
-exprs_deep : (close : TokenKind) (c : Context) (j : Word) (rest : List Word) → (j.kind ≡ close → ⊥) → Begun c j → 256 < c.deep → IsRefused {X = List Expr × ℕ} closed (exprs_in close c) (j ∷ rest) (j ∷ rest) TooDeep
-exprs_deep close c j rest n g h = record {
+exprs_deep : {most : Limits} (close : TokenKind) (c : Context) (j : Word) (rest : List Word) → (j.kind ≡ close → ⊥) → Begun most c j → most.trees < c.deep → IsRefused most {X = List Expr × ℕ} closed (exprs_in close c) (j ∷ rest) (j ∷ rest) TooDeep
+exprs_deep {most = most} close c j rest n g h = record {
   front = [];
   whole = refl;
   tree = ([], 0);
   more = mark_word close ∷ [];
   goes_on = λ l v gs w d. expands _ (no_exprs close c 0 refl) (takes (mark_word close) refl d);
-  stops = λ l i r gs w f s d. stops_exprs l close c r.0 r.1 gs j rest w n h i.trees s d;
+  stops = λ l i r gs w f s d. stops_exprs most l close c r.0 r.1 gs j rest w n h i.trees s d;
   excused = record {
-    limits = deeper (c.deep + 1) (c.open_ + 1);
-    wide = deeper_wide (c.deep + 1) (c.open_ + 1);
+    limits = deeper most (c.deep + 1) (c.open_ + 1);
+    wide = deeper_wide most (c.deep + 1) (c.open_ + 1);
     allows = (refl, refl);
     first = j;
     behind = rest;
@@ -258,7 +259,7 @@ exprs_deep close c j rest n g h = record {
     more = g.more ++ (mark_word close ∷ []);
     goes_on = λ gs w d. expands _ (exprs close c g.tree.at g.tree.tree g.tree.height [] 0 (max g.tree.height 0) (omega arith) refl)
         (spells_at (ap (λ v. j ∷ v) (sym (append_assoc g.more (mark_word close ∷ []) w)))
-        (level_with 0 (deeper (c.deep + 1) (c.open_ + 1)) c g.tree (j ∷ g.more) (λ hs v e. g.spelled hs v e) (Of (MoreExprs close c [] 0) ∷ gs) (mark_word close ∷ w) (expands _ (end_exprs close c 0 refl) (takes (mark_word close) refl d))));
+        (level_with 0 (deeper most (c.deep + 1) (c.open_ + 1)) c g.tree (j ∷ g.more) (λ hs v e. g.spelled hs v e) (Of (MoreExprs close c [] 0) ∷ gs) (mark_word close ∷ w) (expands _ (end_exprs close c 0 refl) (takes (mark_word close) refl d))));
   };
 }
 
@@ -267,7 +268,7 @@ none_exprs l s close c _ d gs rest w m n b h (expands _ (exprs close_0 c_0 ay y 
 none_exprs l s close c _ d gs _ w m no_mark_end b h (expands _ (no_exprs close_0 c_0 d_0 q0) (takes t kk z)) = h
 none_exprs l s close c _ d gs _ w m (no_mark j rest n) b h (expands _ (no_exprs close_0 c_0 d_0 q0) (takes t kk z)) = n (ap (λ v. v.kind) (sym h) ∙ kk)
 
-no_exprs_there : (s : Setting) (close : TokenKind) (c : Context) (rest : List Word) → c.mode ≡ mode_of s → NoMark close rest → NoneBegins s rest → IsRefused {X = List Expr × ℕ} closed (exprs_in close c) rest rest Syntax
+no_exprs_there : {most : Limits} (s : Setting) (close : TokenKind) (c : Context) (rest : List Word) → c.mode ≡ mode_of s → NoMark close rest → NoneBegins s rest → IsRefused most {X = List Expr × ℕ} closed (exprs_in close c) rest rest Syntax
 no_exprs_there s close c rest m n b = record {
   front = [];
   whole = refl;
@@ -281,6 +282,6 @@ no_exprs_there s close c rest m n b = record {
 head_not : {kind : TokenKind} {j : Word} {rest : List Word} → NoMark kind (j ∷ rest) → j.kind ≡ kind → ⊥
 head_not (no_mark j rest f) = f
 
-pub exprs_first_in : (s : Setting) (close : TokenKind) (c : Context) (rest : List Word) (why : Cause) → c.mode ≡ mode_of s → FirstIn s rest why → NoMark close rest → 256 < c.deep → IsRefused {X = List Expr × ℕ} closed (exprs_in close c) rest rest why
+pub exprs_first_in : {most : Limits} (s : Setting) (close : TokenKind) (c : Context) (rest : List Word) (why : Cause) → c.mode ≡ mode_of s → FirstIn s rest why → NoMark close rest → most.trees < c.deep → IsRefused most {X = List Expr × ℕ} closed (exprs_in close c) rest rest why
 exprs_first_in s close c _ _ m (only_deeper_in j rest b) n h = exprs_deep close c j rest (head_not n) (begun_in s c j m b) h
 exprs_first_in s close c _ _ m (none_first rest b) n h = no_exprs_there s close c rest m n b

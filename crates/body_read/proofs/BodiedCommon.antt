@@ -26,7 +26,7 @@ variable_forth l c at e d gs j w h (expands _ (string c_1 at_1 e_1 d_1 t_1 q1_0 
 variable_forth l c at e d gs j w h (expands _ (bits c_1 at_1 e_1 d_1 q1_0 q1_1) (begins t kk ka z)) = cc
 variable_forth l c at e d gs j w h (expands _ (paren c_1 at_1 e_1 d_1 ay_1 q1_0) (begins t kk ka z)) = cc
 
-pub only_variable : (c : Context) (j : Word) (rest : List Word) → j.kind ≡ k.Variable → Passes {X = Placed Expr} closed (common_in c) (j ∷ rest) nothing rest (λ u. record { at = j.at; tree = x.Var j.at j.chars; height = 1 })
+pub only_variable : {most : Limits} (c : Context) (j : Word) (rest : List Word) → j.kind ≡ k.Variable → Passes most {X = Placed Expr} closed (common_in c) (j ∷ rest) nothing rest (λ u. record { at = j.at; tree = x.Var j.at j.chars; height = 1 })
 only_variable c j rest h = record {
   front = j ∷ [];
   whole = refl;
@@ -42,7 +42,7 @@ integer_forth l c at e d gs j w h (expands _ (string c_1 at_1 e_1 d_1 t_1 q1_0 q
 integer_forth l c at e d gs j w h (expands _ (bits c_1 at_1 e_1 d_1 q1_0 q1_1) (begins t kk ka z)) = cc
 integer_forth l c at e d gs j w h (expands _ (paren c_1 at_1 e_1 d_1 ay_1 q1_0) (begins t kk ka z)) = cc
 
-pub only_integer : (c : Context) (j : Word) (rest : List Word) → j.kind ≡ k.Integer → Passes {X = Placed Expr} closed (common_in c) (j ∷ rest) nothing rest (λ u. record { at = j.at; tree = x.Int j.at (pos j.number); height = 1 })
+pub only_integer : {most : Limits} (c : Context) (j : Word) (rest : List Word) → j.kind ≡ k.Integer → Passes most {X = Placed Expr} closed (common_in c) (j ∷ rest) nothing rest (λ u. record { at = j.at; tree = x.Int j.at (pos j.number); height = 1 })
 only_integer c j rest h = record {
   front = j ∷ [];
   whole = refl;
@@ -58,7 +58,7 @@ character_forth l c at e d gs j w h (expands _ (string c_1 at_1 e_1 d_1 t_1 q1_0
 character_forth l c at e d gs j w h (expands _ (bits c_1 at_1 e_1 d_1 q1_0 q1_1) (begins t kk ka z)) = cc
 character_forth l c at e d gs j w h (expands _ (paren c_1 at_1 e_1 d_1 ay_1 q1_0) (begins t kk ka z)) = cc
 
-pub only_character : (c : Context) (j : Word) (rest : List Word) → j.kind ≡ k.Character → Passes {X = Placed Expr} closed (common_in c) (j ∷ rest) nothing rest (λ u. record { at = j.at; tree = x.Char j.at j.number; height = 1 })
+pub only_character : {most : Limits} (c : Context) (j : Word) (rest : List Word) → j.kind ≡ k.Character → Passes most {X = Placed Expr} closed (common_in c) (j ∷ rest) nothing rest (λ u. record { at = j.at; tree = x.Char j.at j.number; height = 1 })
 only_character c j rest h = record {
   front = j ∷ [];
   whole = refl;
@@ -74,7 +74,7 @@ string_forth l c at e d gs j w h (expands _ (string c_1 at_1 e_1 d_1 t_1 q1_0 q1
 string_forth l c at e d gs j w h (expands _ (bits c_1 at_1 e_1 d_1 q1_0 q1_1) (begins t kk ka z)) = cc
 string_forth l c at e d gs j w h (expands _ (paren c_1 at_1 e_1 d_1 ay_1 q1_0) (begins t kk ka z)) = cc
 
-pub only_string : (c : Context) (j : Word) (rest : List Word) → (c.mode ≡ InSize → ⊥) → j.kind ≡ k.Str → Passes {X = Placed Expr} closed (common_in c) (j ∷ rest) nothing rest (λ u. record { at = j.at; tree = x.Str j.at j.chars; height = 1 })
+pub only_string : {most : Limits} (c : Context) (j : Word) (rest : List Word) → (c.mode ≡ InSize → ⊥) → j.kind ≡ k.Str → Passes most {X = Placed Expr} closed (common_in c) (j ∷ rest) nothing rest (λ u. record { at = j.at; tree = x.Str j.at j.chars; height = 1 })
 only_string c j rest m h = record {
   front = j ∷ [];
   whole = refl;
@@ -90,7 +90,7 @@ bits_forth l c at e d gs j w h (expands _ (string c_1 at_1 e_1 d_1 t_1 q1_0 q1_1
 bits_forth l c at e d gs j w h (expands _ (bits c_1 at_1 e_1 d_1 q1_0 q1_1) (begins t kk ka z)) = let P : Span → Type 0 = λ v. Spells l (Of (BitsRest c v e d) ∷ gs) w in (q1_1, ka, subst P ka z)
 bits_forth l c at e d gs j w h (expands _ (paren c_1 at_1 e_1 d_1 ay_1 q1_0) (begins t kk ka z)) = cc
 
-pub only_bits : (c : Context) (j : Word) (rest : List Word) → (c.mode ≡ InSize → ⊥) → j.kind ≡ k.LeftBits → c.open_ < 64 → Passes {X = Placed Expr} {Y = Expr × ℕ} closed (common_in c) (j ∷ rest) (bits_in c j.at) rest (λ r. record { at = j.at; tree = r.0; height = r.1 })
+pub only_bits : {most : Limits} (c : Context) (j : Word) (rest : List Word) → (c.mode ≡ InSize → ⊥) → j.kind ≡ k.LeftBits → c.open_ < most.brackets → Passes most {X = Placed Expr} {Y = Expr × ℕ} closed (common_in c) (j ∷ rest) (bits_in c j.at) rest (λ r. record { at = j.at; tree = r.0; height = r.1 })
 only_bits c j rest m h b = record {
   front = j ∷ [];
   whole = refl;
@@ -106,7 +106,7 @@ paren_forth l c at e d gs j w h (expands _ (string c_1 at_1 e_1 d_1 t_1 q1_0 q1_
 paren_forth l c at e d gs j w h (expands _ (bits c_1 at_1 e_1 d_1 q1_0 q1_1) (begins t kk ka z)) = cc
 paren_forth l c at e d gs j w h (expands _ (paren c_1 at_1 e_1 d_1 ay_1 q1_0) (begins t kk ka z)) = (q1_0, ka, ay_1, z)
 
-pub only_paren : (c : Context) (j : Word) (rest : List Word) → j.kind ≡ k.LeftParen → c.open_ < 64 → Passes {X = Placed Expr} {Y = Placed Expr × Unit {0}} closed (common_in c) (j ∷ rest) (in_paren c) rest (λ p. record { at = j.at; tree = p.0.tree; height = p.0.height })
+pub only_paren : {most : Limits} (c : Context) (j : Word) (rest : List Word) → j.kind ≡ k.LeftParen → c.open_ < most.brackets → Passes most {X = Placed Expr} {Y = Placed Expr × Unit {0}} closed (common_in c) (j ∷ rest) (in_paren c) rest (λ p. record { at = j.at; tree = p.0.tree; height = p.0.height })
 only_paren c j rest h b = record {
   front = j ∷ [];
   whole = refl;
@@ -123,21 +123,21 @@ room : (l : Limits) (c : Context) (at : Span) (e : Expr) (d : ℕ) (gs : List Go
 room l c at e d gs j w (inl h) z = (bits_forth l c at e d gs j w h z).0
 room l c at e d gs j w (inr h) z = (paren_forth l c at e d gs j w h z).0
 
-stops_open : (c : Context) (j : Word) (rest : List Word) → Opens j.kind → 64 ≤ c.open_ → (l : Limits) → l.brackets ≡ 64 → (r : Placed Expr) (gs : List Goal) (w : List Word) → SameHead w (j ∷ rest) → Spells l (common_in c r ++ gs) w → ⊥
-stops_open c j rest h b l i r gs [] s d = s
-stops_open c j rest h b l i r gs (t ∷ w) s d = let P : Word → Type 0 = λ v. Opens v.kind in let a : c.open_ < l.brackets = room l c r.at r.tree r.height gs t w (subst P (sym s) h) d in omega arith
+stops_open : (most : Limits) (c : Context) (j : Word) (rest : List Word) → Opens j.kind → most.brackets ≤ c.open_ → (l : Limits) → l.brackets ≡ most.brackets → (r : Placed Expr) (gs : List Goal) (w : List Word) → SameHead w (j ∷ rest) → Spells l (common_in c r ++ gs) w → ⊥
+stops_open most c j rest h b l i r gs [] s d = s
+stops_open most c j rest h b l i r gs (t ∷ w) s d = let P : Word → Type 0 = λ v. Opens v.kind in let a : c.open_ < l.brackets = room l c r.at r.tree r.height gs t w (subst P (sym s) h) d in omega arith
 
-open_deep : (c : Context) (j : Word) (rest : List Word) → Opens j.kind → BegunCommon c j → 64 ≤ c.open_ → IsRefused {X = Placed Expr} closed (common_in c) (j ∷ rest) (j ∷ rest) TooDeep
-open_deep c j rest h g b = record {
+open_deep : {most : Limits} (c : Context) (j : Word) (rest : List Word) → Opens j.kind → BegunCommon most c j → most.brackets ≤ c.open_ → IsRefused most {X = Placed Expr} closed (common_in c) (j ∷ rest) (j ∷ rest) TooDeep
+open_deep {most = most} c j rest h g b = record {
   front = [];
   whole = refl;
   tree = some_expr;
   more = some_word ∷ [];
   goes_on = λ l v gs w d. common_spells l c gs w d;
-  stops = λ l i r gs w f s d. stops_open c j rest h b l i.brackets r gs w s d;
+  stops = λ l i r gs w f s d. stops_open most c j rest h b l i.brackets r gs w s d;
   excused = record {
-    limits = deeper (c.deep + 1) (c.open_ + 1);
-    wide = deeper_wide (c.deep + 1) (c.open_ + 1);
+    limits = deeper most (c.deep + 1) (c.open_ + 1);
+    wide = deeper_wide most (c.deep + 1) (c.open_ + 1);
     allows = (refl, refl);
     first = j;
     behind = rest;
@@ -148,10 +148,10 @@ open_deep c j rest h g b = record {
   };
 }
 
-pub bits_deep : (c : Context) (j : Word) (rest : List Word) → (c.mode ≡ InSize → ⊥) → j.kind ≡ k.LeftBits → 64 ≤ c.open_ → IsRefused {X = Placed Expr} closed (common_in c) (j ∷ rest) (j ∷ rest) TooDeep
+pub bits_deep : {most : Limits} (c : Context) (j : Word) (rest : List Word) → (c.mode ≡ InSize → ⊥) → j.kind ≡ k.LeftBits → most.brackets ≤ c.open_ → IsRefused most {X = Placed Expr} closed (common_in c) (j ∷ rest) (j ∷ rest) TooDeep
 bits_deep c j rest m h b = open_deep c j rest (inl h) (begun_bits c j m h) b
 
-pub paren_deep : (c : Context) (j : Word) (rest : List Word) → j.kind ≡ k.LeftParen → 64 ≤ c.open_ → IsRefused {X = Placed Expr} closed (common_in c) (j ∷ rest) (j ∷ rest) TooDeep
+pub paren_deep : {most : Limits} (c : Context) (j : Word) (rest : List Word) → j.kind ≡ k.LeftParen → most.brackets ≤ c.open_ → IsRefused most {X = Placed Expr} closed (common_in c) (j ∷ rest) (j ∷ rest) TooDeep
 paren_deep c j rest h b = open_deep c j rest (inr h) (begun_paren c j h) b
 
 -- none of them begins so
@@ -181,7 +181,7 @@ none_stops l c at e d gs _ w (no_common j rest n) s (expands _ (string c_1 at_1 
 none_stops l c at e d gs _ w (no_common j rest n) s (expands _ (bits c_1 at_1 e_1 d_1 q1_0 q1_1) (begins t kk ka z)) = n.bits (ap (λ v. v.kind) (sym s) ∙ kk)
 none_stops l c at e d gs _ w (no_common j rest n) s (expands _ (paren c_1 at_1 e_1 d_1 ay_1 q1_0) (begins t kk ka z)) = n.paren (ap (λ v. v.kind) (sym s) ∙ kk)
 
-pub common_none : (c : Context) (rest : List Word) → NoCommon rest → IsRefused {X = Placed Expr} closed (common_in c) rest rest Syntax
+pub common_none : {most : Limits} (c : Context) (rest : List Word) → NoCommon rest → IsRefused most {X = Placed Expr} closed (common_in c) rest rest Syntax
 common_none c rest n = record {
   front = [];
   whole = refl;

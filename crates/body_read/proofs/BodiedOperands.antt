@@ -41,8 +41,8 @@ tuple_forth l c at e d gs j w h (expands _ (common c_0 at_0 e_0 d_0) (expands _ 
 tuple_forth l c at e d gs j w h (expands _ (common c_0 at_0 e_0 d_0) (expands _ (bits c_1 at_1 e_1 d_1 q1_0 q1_1) (begins t kk ka z))) = cc
 tuple_forth l c at e d gs j w h (expands _ (common c_0 at_0 e_0 d_0) (expands _ (paren c_1 at_1 e_1 d_1 ay_1 q1_0) (begins t kk ka z))) = cc
 
-pub on_tuple : (c : Context) (j : Word) (rest : List Word) → (c.mode ≡ InSize → ⊥) → j.kind ≡ k.LeftBrace → c.open_ < 64 →
-    Passes {X = Placed Expr} {Y = List Expr × ℕ} calls (operand_in c) (j ∷ rest) (exprs_in k.RightBrace (inside (under c))) rest (λ r. record { at = j.at; tree = x.Tuple j.at r.0; height = r.1 + 1 })
+pub on_tuple : {most : Limits} (c : Context) (j : Word) (rest : List Word) → (c.mode ≡ InSize → ⊥) → j.kind ≡ k.LeftBrace → c.open_ < most.brackets →
+    Passes most {X = Placed Expr} {Y = List Expr × ℕ} calls (operand_in c) (j ∷ rest) (exprs_in k.RightBrace (inside (under c))) rest (λ r. record { at = j.at; tree = x.Tuple j.at r.0; height = r.1 + 1 })
 on_tuple c j rest m h b = record {
   front = j ∷ [];
   whole = refl;
@@ -68,7 +68,7 @@ list_forth l c at e d gs j w h (expands _ (common c_0 at_0 e_0 d_0) (expands _ (
 list_forth l c at e d gs j w h (expands _ (common c_0 at_0 e_0 d_0) (expands _ (bits c_1 at_1 e_1 d_1 q1_0 q1_1) (begins t kk ka z))) = cc
 list_forth l c at e d gs j w h (expands _ (common c_0 at_0 e_0 d_0) (expands _ (paren c_1 at_1 e_1 d_1 ay_1 q1_0) (begins t kk ka z))) = cc
 
-pub on_list : (c : Context) (j : Word) (rest : List Word) → (c.mode ≡ InSize → ⊥) → j.kind ≡ k.LeftBracket → c.open_ < 64 → Passes {X = Placed Expr} {Y = Expr × ℕ} calls (operand_in c) (j ∷ rest) (list_in c j.at) rest (λ r. record { at = j.at; tree = r.0; height = r.1 })
+pub on_list : {most : Limits} (c : Context) (j : Word) (rest : List Word) → (c.mode ≡ InSize → ⊥) → j.kind ≡ k.LeftBracket → c.open_ < most.brackets → Passes most {X = Placed Expr} {Y = Expr × ℕ} calls (operand_in c) (j ∷ rest) (list_in c j.at) rest (λ r. record { at = j.at; tree = r.0; height = r.1 })
 on_list c j rest m h b = record {
   front = j ∷ [];
   whole = refl;
@@ -101,8 +101,8 @@ case_forth l c at e d gs j w h (expands _ (common c_0 at_0 e_0 d_0) (expands _ (
 case_forth l c at e d gs j w h (expands _ (common c_0 at_0 e_0 d_0) (expands _ (bits c_1 at_1 e_1 d_1 q1_0 q1_1) (begins t kk ka z))) = cc
 case_forth l c at e d gs j w h (expands _ (common c_0 at_0 e_0 d_0) (expands _ (paren c_1 at_1 e_1 d_1 ay_1 q1_0) (begins t kk ka z))) = cc
 
-pub on_case : (c : Context) (j : Word) (rest : List Word) → c.mode ≡ InBody → j.kind ≡ k.Case → c.open_ < 64 → c.deep + 1 ≤ 256 →
-    Passes {X = Placed Expr} {Y = Placed Expr × (List Alt × ℕ)} calls (operand_in c) (j ∷ rest) (case_in (inside (under c))) rest (case_with j.at)
+pub on_case : {most : Limits} (c : Context) (j : Word) (rest : List Word) → c.mode ≡ InBody → j.kind ≡ k.Case → c.open_ < most.brackets → c.deep + 1 ≤ most.trees →
+    Passes most {X = Placed Expr} {Y = Placed Expr × (List Alt × ℕ)} calls (operand_in c) (j ∷ rest) (case_in (inside (under c))) rest (case_with j.at)
 on_case c j rest m h b a = record {
   front = j ∷ [];
   whole = refl;
@@ -127,8 +127,8 @@ receive_forth l c at e d gs j w h (expands _ (common c_0 at_0 e_0 d_0) (expands 
 receive_forth l c at e d gs j w h (expands _ (common c_0 at_0 e_0 d_0) (expands _ (bits c_1 at_1 e_1 d_1 q1_0 q1_1) (begins t kk ka z))) = cc
 receive_forth l c at e d gs j w h (expands _ (common c_0 at_0 e_0 d_0) (expands _ (paren c_1 at_1 e_1 d_1 ay_1 q1_0) (begins t kk ka z))) = cc
 
-pub on_receive : (c : Context) (j : Word) (rest : List Word) → c.mode ≡ InBody → j.kind ≡ k.Receive → c.open_ < 64 → c.deep + 1 ≤ 256 →
-    Passes {X = Placed Expr} {Y = List Alt × ℕ} calls (operand_in c) (j ∷ rest) (alts_in (inside (under c))) rest (λ r. record { at = j.at; tree = x.Receive j.at r.0; height = r.1 + 1 })
+pub on_receive : {most : Limits} (c : Context) (j : Word) (rest : List Word) → c.mode ≡ InBody → j.kind ≡ k.Receive → c.open_ < most.brackets → c.deep + 1 ≤ most.trees →
+    Passes most {X = Placed Expr} {Y = List Alt × ℕ} calls (operand_in c) (j ∷ rest) (alts_in (inside (under c))) rest (λ r. record { at = j.at; tree = x.Receive j.at r.0; height = r.1 + 1 })
 on_receive c j rest m h b a = record {
   front = j ∷ [];
   whole = refl;
@@ -153,8 +153,8 @@ if_forth l c at e d gs j w h (expands _ (common c_0 at_0 e_0 d_0) (expands _ (st
 if_forth l c at e d gs j w h (expands _ (common c_0 at_0 e_0 d_0) (expands _ (bits c_1 at_1 e_1 d_1 q1_0 q1_1) (begins t kk ka z))) = cc
 if_forth l c at e d gs j w h (expands _ (common c_0 at_0 e_0 d_0) (expands _ (paren c_1 at_1 e_1 d_1 ay_1 q1_0) (begins t kk ka z))) = cc
 
-pub on_if : (c : Context) (j : Word) (rest : List Word) → c.mode ≡ InBody → j.kind ≡ k.If → c.open_ < 64 → c.deep + 1 ≤ 256 →
-    Passes {X = Placed Expr} {Y = List Branch × ℕ} calls (operand_in c) (j ∷ rest) (branches_in (inside (under c))) rest (λ r. record { at = j.at; tree = x.If j.at r.0; height = r.1 + 1 })
+pub on_if : {most : Limits} (c : Context) (j : Word) (rest : List Word) → c.mode ≡ InBody → j.kind ≡ k.If → c.open_ < most.brackets → c.deep + 1 ≤ most.trees →
+    Passes most {X = Placed Expr} {Y = List Branch × ℕ} calls (operand_in c) (j ∷ rest) (branches_in (inside (under c))) rest (λ r. record { at = j.at; tree = x.If j.at r.0; height = r.1 + 1 })
 on_if c j rest m h b a = record {
   front = j ∷ [];
   whole = refl;
@@ -169,26 +169,26 @@ of_follows l gs t w h (takes u i z) = let a : extends 0 t.kind ≡ extends 0 k.O
 pub behind_value : (c : Context) (outer : TokenKind → Bool) → Behind {X = Placed Expr} {Y = List Alt × ℕ} (extends 0) outer (of_alts c)
 behind_value c outer = record { behind = λ l p q gs f t w h d. of_follows l (Of (Alts c q.0 q.1) ∷ gs) t w h d }
 
-pub value_spelled : (c : Context) → Spelled {X = Placed Expr} {Y = List Alt × ℕ} (of_alts c) (mark_word k.Of ∷ clause_words [])
+pub value_spelled : {most : Limits} (c : Context) → Spelled most {X = Placed Expr} {Y = List Alt × ℕ} (of_alts c) (mark_word k.Of ∷ clause_words [])
 value_spelled c = record { tree = λ p. (some_alt ∷ [], 1); spelled = λ l v p gs w d. takes (mark_word k.Of) refl (alts_spell l c gs w d) }
 
 -- ---- Refusals
 
-stops_at : (c : Context) (j : Word) (rest : List Word) → ((l : Limits) → l.trees ≡ 256 → l.brackets ≡ 64 → (r : Placed Expr) (gs : List Goal) (w : List Word) → Spells l (operand_in c r ++ gs) (j ∷ w) → ⊥) → (l : Limits) → l.trees ≡ 256 → l.brackets ≡ 64 → (r : Placed Expr) (gs : List Goal) (w : List Word) → SameHead w (j ∷ rest) → Spells l (operand_in c r ++ gs) w → ⊥
-stops_at c j rest stop l i n r gs [] s d = s
-stops_at c j rest stop l i n r gs (t ∷ w) s d = let P : Word → Type 0 = λ v. Spells l (operand_in c r ++ gs) (v ∷ w) in stop l i n r gs w (subst P s d)
+stops_at : (most : Limits) (c : Context) (j : Word) (rest : List Word) → ((l : Limits) → l.trees ≡ most.trees → l.brackets ≡ most.brackets → (r : Placed Expr) (gs : List Goal) (w : List Word) → Spells l (operand_in c r ++ gs) (j ∷ w) → ⊥) → (l : Limits) → l.trees ≡ most.trees → l.brackets ≡ most.brackets → (r : Placed Expr) (gs : List Goal) (w : List Word) → SameHead w (j ∷ rest) → Spells l (operand_in c r ++ gs) w → ⊥
+stops_at most c j rest stop l i n r gs [] s d = s
+stops_at most c j rest stop l i n r gs (t ∷ w) s d = let P : Word → Type 0 = λ v. Spells l (operand_in c r ++ gs) (v ∷ w) in stop l i n r gs w (subst P s d)
 
-too_deep : (c : Context) (j : Word) (rest : List Word) → Begun c j → ((l : Limits) → l.trees ≡ 256 → l.brackets ≡ 64 → (r : Placed Expr) (gs : List Goal) (w : List Word) → Spells l (operand_in c r ++ gs) (j ∷ w) → ⊥) → IsRefused {X = Placed Expr} calls (operand_in c) (j ∷ rest) (j ∷ rest) TooDeep
-too_deep c j rest g stop = record {
+too_deep : {most : Limits} (c : Context) (j : Word) (rest : List Word) → Begun most c j → ((l : Limits) → l.trees ≡ most.trees → l.brackets ≡ most.brackets → (r : Placed Expr) (gs : List Goal) (w : List Word) → Spells l (operand_in c r ++ gs) (j ∷ w) → ⊥) → IsRefused most {X = Placed Expr} calls (operand_in c) (j ∷ rest) (j ∷ rest) TooDeep
+too_deep {most = most} c j rest g stop = record {
   front = [];
   whole = refl;
   tree = some_expr;
   more = some_word ∷ [];
   goes_on = λ l v gs w d. operand_spells l c gs w d;
-  stops = λ l i r gs w f s d. stops_at c j rest stop l i.trees i.brackets r gs w s d;
+  stops = λ l i r gs w f s d. stops_at most c j rest stop l i.trees i.brackets r gs w s d;
   excused = record {
-    limits = deeper (c.deep + 1) (c.open_ + 1);
-    wide = deeper_wide (c.deep + 1) (c.open_ + 1);
+    limits = deeper most (c.deep + 1) (c.open_ + 1);
+    wide = deeper_wide most (c.deep + 1) (c.open_ + 1);
     allows = (refl, refl);
     first = j;
     behind = rest;
@@ -199,15 +199,15 @@ too_deep c j rest g stop = record {
   };
 }
 
-pub tuple_deep : (c : Context) (j : Word) (rest : List Word) → (c.mode ≡ InSize → ⊥) → j.kind ≡ k.LeftBrace → 64 ≤ c.open_ → IsRefused {X = Placed Expr} calls (operand_in c) (j ∷ rest) (j ∷ rest) TooDeep
+pub tuple_deep : {most : Limits} (c : Context) (j : Word) (rest : List Word) → (c.mode ≡ InSize → ⊥) → j.kind ≡ k.LeftBrace → most.brackets ≤ c.open_ → IsRefused most {X = Placed Expr} calls (operand_in c) (j ∷ rest) (j ∷ rest) TooDeep
 tuple_deep c j rest m h b = too_deep c j rest (begun_tuple c j m h) (λ l i n r gs w d. let a : c.open_ < l.brackets = (tuple_forth l c r.at r.tree r.height gs j w h d).0 in omega arith)
 
-pub list_deep : (c : Context) (j : Word) (rest : List Word) → (c.mode ≡ InSize → ⊥) → j.kind ≡ k.LeftBracket → 64 ≤ c.open_ → IsRefused {X = Placed Expr} calls (operand_in c) (j ∷ rest) (j ∷ rest) TooDeep
+pub list_deep : {most : Limits} (c : Context) (j : Word) (rest : List Word) → (c.mode ≡ InSize → ⊥) → j.kind ≡ k.LeftBracket → most.brackets ≤ c.open_ → IsRefused most {X = Placed Expr} calls (operand_in c) (j ∷ rest) (j ∷ rest) TooDeep
 list_deep c j rest m h b = too_deep c j rest (begun_list c j m h) (λ l i n r gs w d. let a : c.open_ < l.brackets = (list_forth l c r.at r.tree r.height gs j w h d).0 in omega arith)
 
-no_room : (l : Limits) (c : Context) → l.trees ≡ 256 → l.brackets ≡ 64 → (64 ≤ c.open_ ⊎ 256 < c.deep + 1) → Room l c → ⊥
-no_room l c i n (inl b) r = let a : c.open_ < l.brackets = r.0 in omega arith
-no_room l c i n (inr b) r = let a : c.deep + 1 ≤ l.trees = r.1 in omega arith
+no_room : (most : Limits) (l : Limits) (c : Context) → l.trees ≡ most.trees → l.brackets ≡ most.brackets → (most.brackets ≤ c.open_ ⊎ most.trees < c.deep + 1) → Room l c → ⊥
+no_room most l c i n (inl b) r = let a : c.open_ < l.brackets = r.0 in omega arith
+no_room most l c i n (inr b) r = let a : c.deep + 1 ≤ l.trees = r.1 in omega arith
 
 block_room : (l : Limits) (c : Context) (at : Span) (e : Expr) (d : ℕ) (gs : List Goal) (j : Word) (w : List Word) (kind : TokenKind) → j.kind ≡ kind → IsTrue (begins_block kind) → Spells l (Of (Operand c at e d) ∷ gs) (j ∷ w) → Room l c
 block_room l c at e d gs j w k.Case h b z = (case_forth l c at e d gs j w h z).0
@@ -215,8 +215,8 @@ block_room l c at e d gs j w k.Receive h b z = (receive_forth l c at e d gs j w 
 block_room l c at e d gs j w k.If h b z = (if_forth l c at e d gs j w h z).0
 block_room l c at e d gs j w _ h b z = cc
 
-pub block_deep : (c : Context) (j : Word) (rest : List Word) → c.mode ≡ InBody → IsTrue (begins_block j.kind) → (64 ≤ c.open_ ⊎ 256 < c.deep + 1) → IsRefused {X = Placed Expr} calls (operand_in c) (j ∷ rest) (j ∷ rest) TooDeep
-block_deep c j rest m h b = too_deep c j rest (begun_block c j j.kind m refl h) (λ l i n r gs w d. no_room l c i n b (block_room l c r.at r.tree r.height gs j w j.kind refl h d))
+pub block_deep : {most : Limits} (c : Context) (j : Word) (rest : List Word) → c.mode ≡ InBody → IsTrue (begins_block j.kind) → (most.brackets ≤ c.open_ ⊎ most.trees < c.deep + 1) → IsRefused most {X = Placed Expr} calls (operand_in c) (j ∷ rest) (j ∷ rest) TooDeep
+block_deep {most = most} c j rest m h b = too_deep c j rest (begun_block c j j.kind m refl h) (λ l i n r gs w d. no_room most l c i n b (block_room l c r.at r.tree r.height gs j w j.kind refl h d))
 
 -- ---- What begins as none of the others
 
@@ -252,7 +252,7 @@ common_forth l c at e d gs _ w (none_else j rest m) s (expands _ (receive c_0 at
 common_forth l c at e d gs _ w (none_else j rest m) s (expands _ (if_ c_0 at_0 e_0 d_0 bs_0 db_0 q0_0 q0_1 q0_2 q0_3 q0_4) (begins t kk ka z)) = absurd (m.block q0_0 (ap (λ v. begins_block v.kind) (sym s) ∙ ap begins_block kk))
 common_forth l c at e d gs _ w (none_else j rest m) s (expands _ (common c_0 at_0 e_0 d_0) z) = z
 
-pub only_common : (c : Context) (rest : List Word) → OnlyCommon c rest → Passes {X = Placed Expr} {Y = Placed Expr} calls (operand_in c) rest (common_in c) rest (λ p. p)
+pub only_common : {most : Limits} (c : Context) (rest : List Word) → OnlyCommon c rest → Passes most {X = Placed Expr} {Y = Placed Expr} calls (operand_in c) rest (common_in c) rest (λ p. p)
 only_common c rest h = record {
   front = [];
   whole = refl;

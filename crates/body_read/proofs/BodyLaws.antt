@@ -27,7 +27,7 @@ body_forth : (l : Limits) (c : Context) (ys : List Item) (d : ℕ) (gs : List Go
     (p : (Item × ℕ) × (List Item × ℕ)) × (ys ≡ p.0.0 ∷ p.1.0) × (d ≡ max p.0.1 p.1.1) × Spells l (item_and_more c p ++ gs) w
 body_forth l c _ d gs w (expands _ (body c_0 i di is dis d_0 q0) z) = (((i, di), (is, dis)), refl, q0, z)
 
-pub on_body : (c : Context) (rest : List Word) → Passes {X = List Item × ℕ} {Y = (Item × ℕ) × (List Item × ℕ)} body_longer (body_in c) rest (item_and_more c) rest with_items
+pub on_body : {most : Limits} (c : Context) (rest : List Word) → Passes most {X = List Item × ℕ} {Y = (Item × ℕ) × (List Item × ℕ)} body_longer (body_in c) rest (item_and_more c) rest with_items
 on_body c rest = record {
   front = [];
   whole = refl;
@@ -40,7 +40,7 @@ comma_forth : (l : Limits) (c : Context) (ys : List Item) (d : ℕ) (gs : List G
 comma_forth l c _ d gs j w h f (expands _ (more_items c_0 i di is dis d_0 q0) (takes t kk z)) = (((i, di), (is, dis)), refl, q0, z)
 comma_forth l c _ d gs j w h f (expands _ (end_items c_0 d_0 q0) z) = absurd (f j w (ap body_longer h) z)
 
-pub on_next_item : (c : Context) (j : Word) (rest : List Word) → j.kind ≡ k.Comma → Passes {X = List Item × ℕ} {Y = (Item × ℕ) × (List Item × ℕ)} body_longer (more_items_in c) (j ∷ rest) (item_and_more c) rest with_items
+pub on_next_item : {most : Limits} (c : Context) (j : Word) (rest : List Word) → j.kind ≡ k.Comma → Passes most {X = List Item × ℕ} {Y = (Item × ℕ) × (List Item × ℕ)} body_longer (more_items_in c) (j ∷ rest) (item_and_more c) rest with_items
 on_next_item c j rest h = record {
   front = j ∷ [];
   whole = refl;
@@ -53,7 +53,7 @@ end_forth l c _ d gs rest w n s (expands _ (end_items c_0 d_0 q0) z) = (refl, q0
 end_forth l c _ d gs _ w no_mark_end s (expands _ (more_items c_0 i di is dis d_0 q0) (takes t kk z)) = absurd s
 end_forth l c _ d gs _ w (no_mark j rest n) s (expands _ (more_items c_0 i di is dis d_0 q0) (takes t kk z)) = absurd (n (ap (λ v. v.kind) (sym s) ∙ kk))
 
-pub on_end_items : (c : Context) (rest : List Word) → NoMark k.Comma rest → Passes {X = List Item × ℕ} body_longer (more_items_in c) rest nothing rest (λ u. ([], 0))
+pub on_end_items : {most : Limits} (c : Context) (rest : List Word) → NoMark k.Comma rest → Passes most {X = List Item × ℕ} body_longer (more_items_in c) rest nothing rest (λ u. ([], 0))
 on_end_items c rest n = record {
   front = [];
   whole = refl;
@@ -72,7 +72,7 @@ items_lengthen l c _ d gs t w f h (expands _ (end_items c_0 d_0 q0) z) = f t w (
 pub behind_item : (c : Context) → Behind {X = Item × ℕ} {Y = List Item × ℕ} item_longer body_longer (λ p. more_items_in c)
 behind_item c = record { behind = λ l p q gs f t w h d. items_lengthen l c q.0 q.1 gs t w f h d }
 
-pub items_spelled : (c : Context) → Spelled {X = Item × ℕ} {Y = List Item × ℕ} (λ p. more_items_in c) []
+pub items_spelled : {most : Limits} (c : Context) → Spelled most {X = Item × ℕ} {Y = List Item × ℕ} (λ p. more_items_in c) []
 items_spelled c = record { tree = λ p. ([], 0); spelled = λ l v p gs w d. expands _ (end_items c 0 refl) d }
 
 -- one variable is a body

@@ -36,7 +36,7 @@ alts_forth : (l : Limits) (c : Context) (ys : List Alt) (d : ℕ) (gs : List Goa
     (p : (Alt × ℕ) × (List Alt × ℕ)) × (ys ≡ p.0.0 ∷ p.1.0) × (d ≡ max p.0.1 p.1.1) × Spells l (alt_and_more c p ++ gs) w
 alts_forth l c _ d gs w (expands _ (alts c_0 a da rest_0 dr d_0 q0) z) = (((a, da), (rest_0, dr)), refl, q0, z)
 
-pub on_alts : (c : Context) (rest : List Word) → Passes {X = List Alt × ℕ} {Y = (Alt × ℕ) × (List Alt × ℕ)} closed (alts_in c) rest (alt_and_more c) rest with_alts
+pub on_alts : {most : Limits} (c : Context) (rest : List Word) → Passes most {X = List Alt × ℕ} {Y = (Alt × ℕ) × (List Alt × ℕ)} closed (alts_in c) rest (alt_and_more c) rest with_alts
 on_alts c rest = record {
   front = [];
   whole = refl;
@@ -49,7 +49,7 @@ next_alt_forth : (l : Limits) (c : Context) (ys : List Alt) (d : ℕ) (gs : List
 next_alt_forth l c _ d gs j w h (expands _ (more_alts c_0 a da rest_0 dr d_0 q0) (takes t kk z)) = (((a, da), (rest_0, dr)), refl, q0, z)
 next_alt_forth l c _ d gs j w h (expands _ (end_alts c_0 d_0 q0) (takes t kk z)) = cc
 
-pub on_next_alt : (c : Context) (j : Word) (rest : List Word) → j.kind ≡ k.Semicolon → Passes {X = List Alt × ℕ} {Y = (Alt × ℕ) × (List Alt × ℕ)} closed (more_alts_in c) (j ∷ rest) (alt_and_more c) rest with_alts
+pub on_next_alt : {most : Limits} (c : Context) (j : Word) (rest : List Word) → j.kind ≡ k.Semicolon → Passes most {X = List Alt × ℕ} {Y = (Alt × ℕ) × (List Alt × ℕ)} closed (more_alts_in c) (j ∷ rest) (alt_and_more c) rest with_alts
 on_next_alt c j rest h = record {
   front = j ∷ [];
   whole = refl;
@@ -61,7 +61,7 @@ end_alts_forth : (l : Limits) (c : Context) (ys : List Alt) (d : ℕ) (gs : List
 end_alts_forth l c _ d gs j w h (expands _ (more_alts c_0 a da rest_0 dr d_0 q0) (takes t kk z)) = cc
 end_alts_forth l c _ d gs j w h (expands _ (end_alts c_0 d_0 q0) (takes t kk z)) = (refl, q0, z)
 
-pub on_end_alts : (c : Context) (j : Word) (rest : List Word) → j.kind ≡ k.End → Passes {X = List Alt × ℕ} closed (more_alts_in c) (j ∷ rest) nothing rest (λ u. ([], 0))
+pub on_end_alts : {most : Limits} (c : Context) (j : Word) (rest : List Word) → j.kind ≡ k.End → Passes most {X = List Alt × ℕ} closed (more_alts_in c) (j ∷ rest) nothing rest (λ u. ([], 0))
 on_end_alts c j rest h = record {
   front = j ∷ [];
   whole = refl;
@@ -75,7 +75,7 @@ more_alts_stop l c _ d gs _ w (no_mark j rest n) b s (expands _ (more_alts c_0 a
 more_alts_stop l c _ d gs _ w a no_mark_end s (expands _ (end_alts c_0 d_0 q0) (takes t kk z)) = s
 more_alts_stop l c _ d gs _ w a (no_mark j rest n) s (expands _ (end_alts c_0 d_0 q0) (takes t kk z)) = n (ap (λ v. v.kind) (sym s) ∙ kk)
 
-pub more_alts_refused : (c : Context) (rest : List Word) → NoMark k.Semicolon rest → NoMark k.End rest → IsRefused {X = List Alt × ℕ} closed (more_alts_in c) rest rest Syntax
+pub more_alts_refused : {most : Limits} (c : Context) (rest : List Word) → NoMark k.Semicolon rest → NoMark k.End rest → IsRefused most {X = List Alt × ℕ} closed (more_alts_in c) rest rest Syntax
 more_alts_refused c rest a b = record {
   front = [];
   whole = refl;
@@ -93,7 +93,7 @@ alts_lengthen l c _ d gs t w h (expands _ (end_alts c_0 d_0 q0) (takes u kk z)) 
 pub behind_alt : (c : Context) → Behind {X = Alt × ℕ} {Y = List Alt × ℕ} body_longer closed (λ p. more_alts_in c)
 behind_alt c = record { behind = λ l p q gs f t w h d. alts_lengthen l c q.0 q.1 gs t w h d }
 
-pub alts_spelled : (c : Context) → Spelled {X = Alt × ℕ} {Y = List Alt × ℕ} (λ p. more_alts_in c) (mark_word k.End ∷ [])
+pub alts_spelled : {most : Limits} (c : Context) → Spelled most {X = Alt × ℕ} {Y = List Alt × ℕ} (λ p. more_alts_in c) (mark_word k.End ∷ [])
 alts_spelled c = record { tree = λ p. ([], 0); spelled = λ l v p gs w d. expands _ (end_alts c 0 refl) (takes (mark_word k.End) refl d) }
 
 -- what stands behind the pattern of a clause: a guard, if there is one, and a body
@@ -110,7 +110,7 @@ alt_forth : (l : Limits) (c : Context) (a : Alt) (d : ℕ) (gs : List Goal) (w :
     (p : Placed Pattern × ((Guard × ℕ) × (List Item × ℕ))) × (a ≡ (as_alt p).0) × (d ≡ (as_alt p).1) × Spells l (parts_of_alt c p ++ gs) w
 alt_forth l c a d gs w (expands _ (alt c_0 a_0 d_0 at pt dp g dg is di q0 q1) z) = ((record { at = at; tree = pt; height = dp }, ((g, dg), (is, di))), q0, q1, z)
 
-pub on_alt : (c : Context) (rest : List Word) → Passes {X = Alt × ℕ} {Y = Placed Pattern × ((Guard × ℕ) × (List Item × ℕ))} body_longer (alt_in c) rest (parts_of_alt c) rest as_alt
+pub on_alt : {most : Limits} (c : Context) (rest : List Word) → Passes most {X = Alt × ℕ} {Y = Placed Pattern × ((Guard × ℕ) × (List Item × ℕ))} body_longer (alt_in c) rest (parts_of_alt c) rest as_alt
 on_alt c rest = record {
   front = [];
   whole = refl;
@@ -125,11 +125,11 @@ guard_lengthens l c g d gs t w h (expands _ (guarded c_0 g_0 d_0 at ts q0) (take
 pub behind_pattern : (c : Context) → Behind {X = Placed Pattern} {Y = (Guard × ℕ) × (List Item × ℕ)} goes_same body_longer (λ p. rest_of_alt c)
 behind_pattern c = record { behind = λ l p q gs f t w h d. guard_lengthens l c q.0.0 q.0.1 (body_in c q.1 ++ gs) t w h d }
 
-pub rest_spelled : (c : Context) → Spelled {X = Placed Pattern} {Y = (Guard × ℕ) × (List Item × ℕ)} (λ p. rest_of_alt c) (mark_word k.Arrow ∷ (some_word ∷ []))
+pub rest_spelled : {most : Limits} (c : Context) → Spelled most {X = Placed Pattern} {Y = (Guard × ℕ) × (List Item × ℕ)} (λ p. rest_of_alt c) (mark_word k.Arrow ∷ (some_word ∷ []))
 rest_spelled c = record { tree = λ p. ((record { alternatives = [] }, 0), (some_item ∷ [], 1)); spelled = λ l v p gs w d. expands _ (unguarded c _ _ refl refl) (takes (mark_word k.Arrow) refl (body_completed l c gs w d)) }
 
 -- a body behind an arrow
-pub body_spelled : {X : Type 0} (c : Context) → Spelled {X = X} {Y = List Item × ℕ} (λ p. body_in c) (some_word ∷ [])
+pub body_spelled : {most : Limits} {X : Type 0} (c : Context) → Spelled most {X = X} {Y = List Item × ℕ} (λ p. body_in c) (some_word ∷ [])
 body_spelled c = record { tree = λ p. (some_item ∷ [], 1); spelled = λ l v p gs w d. body_completed l c gs w d }
 
 -- ---- The clauses of `if`
@@ -148,7 +148,7 @@ branches_forth : (l : Limits) (c : Context) (ys : List Branch) (d : ℕ) (gs : L
     (p : (Branch × ℕ) × (List Branch × ℕ)) × (ys ≡ p.0.0 ∷ p.1.0) × (d ≡ max p.0.1 p.1.1) × Spells l (branch_and_more c p ++ gs) w
 branches_forth l c _ d gs w (expands _ (branches c_0 a da rest_0 dr d_0 q0) z) = (((a, da), (rest_0, dr)), refl, q0, z)
 
-pub on_branches : (c : Context) (rest : List Word) → Passes {X = List Branch × ℕ} {Y = (Branch × ℕ) × (List Branch × ℕ)} closed (branches_in c) rest (branch_and_more c) rest with_branches
+pub on_branches : {most : Limits} (c : Context) (rest : List Word) → Passes most {X = List Branch × ℕ} {Y = (Branch × ℕ) × (List Branch × ℕ)} closed (branches_in c) rest (branch_and_more c) rest with_branches
 on_branches c rest = record {
   front = [];
   whole = refl;
@@ -161,7 +161,7 @@ next_branch_forth : (l : Limits) (c : Context) (ys : List Branch) (d : ℕ) (gs 
 next_branch_forth l c _ d gs j w h (expands _ (more_branches c_0 a da rest_0 dr d_0 q0) (takes t kk z)) = (((a, da), (rest_0, dr)), refl, q0, z)
 next_branch_forth l c _ d gs j w h (expands _ (end_branches c_0 d_0 q0) (takes t kk z)) = cc
 
-pub on_next_branch : (c : Context) (j : Word) (rest : List Word) → j.kind ≡ k.Semicolon → Passes {X = List Branch × ℕ} {Y = (Branch × ℕ) × (List Branch × ℕ)} closed (more_branches_in c) (j ∷ rest) (branch_and_more c) rest with_branches
+pub on_next_branch : {most : Limits} (c : Context) (j : Word) (rest : List Word) → j.kind ≡ k.Semicolon → Passes most {X = List Branch × ℕ} {Y = (Branch × ℕ) × (List Branch × ℕ)} closed (more_branches_in c) (j ∷ rest) (branch_and_more c) rest with_branches
 on_next_branch c j rest h = record {
   front = j ∷ [];
   whole = refl;
@@ -173,7 +173,7 @@ end_branches_forth : (l : Limits) (c : Context) (ys : List Branch) (d : ℕ) (gs
 end_branches_forth l c _ d gs j w h (expands _ (more_branches c_0 a da rest_0 dr d_0 q0) (takes t kk z)) = cc
 end_branches_forth l c _ d gs j w h (expands _ (end_branches c_0 d_0 q0) (takes t kk z)) = (refl, q0, z)
 
-pub on_end_branches : (c : Context) (j : Word) (rest : List Word) → j.kind ≡ k.End → Passes {X = List Branch × ℕ} closed (more_branches_in c) (j ∷ rest) nothing rest (λ u. ([], 0))
+pub on_end_branches : {most : Limits} (c : Context) (j : Word) (rest : List Word) → j.kind ≡ k.End → Passes most {X = List Branch × ℕ} closed (more_branches_in c) (j ∷ rest) nothing rest (λ u. ([], 0))
 on_end_branches c j rest h = record {
   front = j ∷ [];
   whole = refl;
@@ -187,7 +187,7 @@ more_branches_stop l c _ d gs _ w (no_mark j rest n) b s (expands _ (more_branch
 more_branches_stop l c _ d gs _ w a no_mark_end s (expands _ (end_branches c_0 d_0 q0) (takes t kk z)) = s
 more_branches_stop l c _ d gs _ w a (no_mark j rest n) s (expands _ (end_branches c_0 d_0 q0) (takes t kk z)) = n (ap (λ v. v.kind) (sym s) ∙ kk)
 
-pub more_branches_refused : (c : Context) (rest : List Word) → NoMark k.Semicolon rest → NoMark k.End rest → IsRefused {X = List Branch × ℕ} closed (more_branches_in c) rest rest Syntax
+pub more_branches_refused : {most : Limits} (c : Context) (rest : List Word) → NoMark k.Semicolon rest → NoMark k.End rest → IsRefused most {X = List Branch × ℕ} closed (more_branches_in c) rest rest Syntax
 more_branches_refused c rest a b = record {
   front = [];
   whole = refl;
@@ -205,7 +205,7 @@ branches_lengthen l c _ d gs t w h (expands _ (end_branches c_0 d_0 q0) (takes u
 pub behind_branch : (c : Context) → Behind {X = Branch × ℕ} {Y = List Branch × ℕ} body_longer closed (λ p. more_branches_in c)
 behind_branch c = record { behind = λ l p q gs f t w h d. branches_lengthen l c q.0 q.1 gs t w h d }
 
-pub branches_spelled : (c : Context) → Spelled {X = Branch × ℕ} {Y = List Branch × ℕ} (λ p. more_branches_in c) (mark_word k.End ∷ [])
+pub branches_spelled : {most : Limits} (c : Context) → Spelled most {X = Branch × ℕ} {Y = List Branch × ℕ} (λ p. more_branches_in c) (mark_word k.End ∷ [])
 branches_spelled c = record { tree = λ p. ([], 0); spelled = λ l v p gs w d. expands _ (end_branches c 0 refl) (takes (mark_word k.End) refl d) }
 
 abbrev pub parts_of_branch : Context → Placed (List (List Expr)) × (List Item × ℕ) → List Goal
@@ -218,7 +218,7 @@ branch_forth : (l : Limits) (c : Context) (b : Branch) (d : ℕ) (gs : List Goal
     (p : Placed (List (List Expr)) × (List Item × ℕ)) × (b ≡ (as_branch p).0) × (d ≡ (as_branch p).1) × Spells l (parts_of_branch c p ++ gs) w
 branch_forth l c b d gs w (expands _ (branch c_0 b_0 d_0 at ts dt is di q0 q1) z) = ((record { at = at; tree = ts; height = dt }, (is, di)), q0, q1, z)
 
-pub on_branch : (c : Context) (rest : List Word) → Passes {X = Branch × ℕ} {Y = Placed (List (List Expr)) × (List Item × ℕ)} body_longer (branch_in c) rest (parts_of_branch c) rest as_branch
+pub on_branch : {most : Limits} (c : Context) (rest : List Word) → Passes most {X = Branch × ℕ} {Y = Placed (List (List Expr)) × (List Item × ℕ)} body_longer (branch_in c) rest (parts_of_branch c) rest as_branch
 on_branch c rest = record {
   front = [];
   whole = refl;

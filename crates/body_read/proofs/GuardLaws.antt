@@ -24,7 +24,7 @@ unguarded_forth : (l : Limits) (c : Context) (g : Guard) (d : ℕ) (gs : List Go
 unguarded_forth l c g d gs j w h (expands _ (unguarded c_0 g_0 d_0 q0 q1) (takes t kk z)) = (q0, q1, z)
 unguarded_forth l c g d gs j w h (expands _ (guarded c_0 g_0 d_0 at ts q0) (takes t kk z)) = cc
 
-pub on_unguarded : (c : Context) (j : Word) (rest : List Word) → j.kind ≡ k.Arrow → Passes {X = Guard × ℕ} closed (guarded_in c) (j ∷ rest) nothing rest (λ u. (record { alternatives = [] }, 0))
+pub on_unguarded : {most : Limits} (c : Context) (j : Word) (rest : List Word) → j.kind ≡ k.Arrow → Passes most {X = Guard × ℕ} closed (guarded_in c) (j ∷ rest) nothing rest (λ u. (record { alternatives = [] }, 0))
 on_unguarded c j rest h = record {
   front = j ∷ [];
   whole = refl;
@@ -37,7 +37,7 @@ guarded_forth : (l : Limits) (c : Context) (g : Guard) (d : ℕ) (gs : List Goal
 guarded_forth l c g d gs j w h (expands _ (unguarded c_0 g_0 d_0 q0 q1) (takes t kk z)) = cc
 guarded_forth l c g d gs j w h (expands _ (guarded c_0 g_0 d_0 at ts q0) (takes t kk z)) = (record { at = at; tree = ts; height = d }, q0, refl, z)
 
-pub on_guarded : (c : Context) (j : Word) (rest : List Word) → j.kind ≡ k.When → Passes {X = Guard × ℕ} {Y = Placed (List (List Expr))} closed (guarded_in c) (j ∷ rest) (tests_in (in_mode InGuard c)) rest (λ r. (record { alternatives = r.tree }, r.height))
+pub on_guarded : {most : Limits} (c : Context) (j : Word) (rest : List Word) → j.kind ≡ k.When → Passes most {X = Guard × ℕ} {Y = Placed (List (List Expr))} closed (guarded_in c) (j ∷ rest) (tests_in (in_mode InGuard c)) rest (λ r. (record { alternatives = r.tree }, r.height))
 on_guarded c j rest h = record {
   front = j ∷ [];
   whole = refl;
@@ -51,7 +51,7 @@ guarded_stops l c g d gs _ w (no_mark j rest n) b s (expands _ (unguarded c_0 g_
 guarded_stops l c g d gs _ w a no_mark_end s (expands _ (guarded c_0 g_0 d_0 at ts q0) (takes t kk z)) = s
 guarded_stops l c g d gs _ w a (no_mark j rest n) s (expands _ (guarded c_0 g_0 d_0 at ts q0) (takes t kk z)) = n (ap (λ v. v.kind) (sym s) ∙ kk)
 
-pub guarded_refused : (c : Context) (rest : List Word) → NoMark k.Arrow rest → NoMark k.When rest → IsRefused {X = Guard × ℕ} closed (guarded_in c) rest rest Syntax
+pub guarded_refused : {most : Limits} (c : Context) (rest : List Word) → NoMark k.Arrow rest → NoMark k.When rest → IsRefused most {X = Guard × ℕ} closed (guarded_in c) rest rest Syntax
 guarded_refused c rest a b = record {
   front = [];
   whole = refl;
@@ -88,7 +88,7 @@ tests_forth : (l : Limits) (c : Context) (at : Span) (ts : List (List Expr)) (d 
     (p : Placed Expr × ((List Expr × List (List Expr)) × ℕ)) × (at ≡ p.0.at) × (ts ≡ (as_tests p).tree) × (d ≡ (as_tests p).height) × Spells l (test_and_more c p ++ gs) w
 tests_forth l c at _ d gs w (expands _ (tests c_0 at_0 y dy ys more dm d_0 q0) z) = ((record { at = at; tree = y; height = dy }, ((ys, more), dm)), refl, refl, q0, z)
 
-pub on_tests : (c : Context) (rest : List Word) → Passes {X = Placed (List (List Expr))} {Y = Placed Expr × ((List Expr × List (List Expr)) × ℕ)} closed (tests_in c) rest (test_and_more c) rest as_tests
+pub on_tests : {most : Limits} (c : Context) (rest : List Word) → Passes most {X = Placed (List (List Expr))} {Y = Placed Expr × ((List Expr × List (List Expr)) × ℕ)} closed (tests_in c) rest (test_and_more c) rest as_tests
 on_tests c rest = record {
   front = [];
   whole = refl;
@@ -106,7 +106,7 @@ next_test_forth l c _ _ d gs j w h (expands _ (next_test c_0 ay y dy ys more dm 
 next_test_forth l c _ _ d gs j w h (expands _ (next_alternative c_0 ay y dy ys more dm d_0 q0) (takes t kk z)) = cc
 next_test_forth l c _ _ d gs j w h (expands _ (end_tests c_0 d_0 q0) (takes t kk z)) = cc
 
-pub on_next_test : (c : Context) (j : Word) (rest : List Word) → j.kind ≡ k.Comma → Passes {X = (List Expr × List (List Expr)) × ℕ} {Y = Placed Expr × ((List Expr × List (List Expr)) × ℕ)} closed (more_tests_in c) (j ∷ rest) (test_and_more c) rest with_test
+pub on_next_test : {most : Limits} (c : Context) (j : Word) (rest : List Word) → j.kind ≡ k.Comma → Passes most {X = (List Expr × List (List Expr)) × ℕ} {Y = Placed Expr × ((List Expr × List (List Expr)) × ℕ)} closed (more_tests_in c) (j ∷ rest) (test_and_more c) rest with_test
 on_next_test c j rest h = record {
   front = j ∷ [];
   whole = refl;
@@ -124,7 +124,7 @@ next_alternative_forth l c _ _ d gs j w h (expands _ (next_test c_0 ay y dy ys m
 next_alternative_forth l c _ _ d gs j w h (expands _ (next_alternative c_0 ay y dy ys more dm d_0 q0) (takes t kk z)) = ((record { at = ay; tree = y; height = dy }, ((ys, more), dm)), refl, refl, q0, z)
 next_alternative_forth l c _ _ d gs j w h (expands _ (end_tests c_0 d_0 q0) (takes t kk z)) = cc
 
-pub on_next_alternative : (c : Context) (j : Word) (rest : List Word) → j.kind ≡ k.Semicolon → Passes {X = (List Expr × List (List Expr)) × ℕ} {Y = Placed Expr × ((List Expr × List (List Expr)) × ℕ)} closed (more_tests_in c) (j ∷ rest) (test_and_more c) rest with_alternative
+pub on_next_alternative : {most : Limits} (c : Context) (j : Word) (rest : List Word) → j.kind ≡ k.Semicolon → Passes most {X = (List Expr × List (List Expr)) × ℕ} {Y = Placed Expr × ((List Expr × List (List Expr)) × ℕ)} closed (more_tests_in c) (j ∷ rest) (test_and_more c) rest with_alternative
 on_next_alternative c j rest h = record {
   front = j ∷ [];
   whole = refl;
@@ -137,7 +137,7 @@ end_tests_forth l c _ _ d gs j w h (expands _ (next_test c_0 ay y dy ys more dm 
 end_tests_forth l c _ _ d gs j w h (expands _ (next_alternative c_0 ay y dy ys more dm d_0 q0) (takes t kk z)) = cc
 end_tests_forth l c _ _ d gs j w h (expands _ (end_tests c_0 d_0 q0) (takes t kk z)) = (refl, refl, q0, z)
 
-pub on_end_tests : (c : Context) (j : Word) (rest : List Word) → j.kind ≡ k.Arrow → Passes {X = (List Expr × List (List Expr)) × ℕ} closed (more_tests_in c) (j ∷ rest) nothing rest (λ u. (([], []), 0))
+pub on_end_tests : {most : Limits} (c : Context) (j : Word) (rest : List Word) → j.kind ≡ k.Arrow → Passes most {X = (List Expr × List (List Expr)) × ℕ} closed (more_tests_in c) (j ∷ rest) nothing rest (λ u. (([], []), 0))
 on_end_tests c j rest h = record {
   front = j ∷ [];
   whole = refl;
@@ -153,7 +153,7 @@ more_tests_stop l c _ _ d gs _ w a (no_mark j rest n) e s (expands _ (next_alter
 more_tests_stop l c _ _ d gs _ w a b no_mark_end s (expands _ (end_tests c_0 d_0 q0) (takes t kk z)) = s
 more_tests_stop l c _ _ d gs _ w a b (no_mark j rest n) s (expands _ (end_tests c_0 d_0 q0) (takes t kk z)) = n (ap (λ v. v.kind) (sym s) ∙ kk)
 
-pub more_tests_refused : (c : Context) (rest : List Word) → NoMark k.Comma rest → NoMark k.Semicolon rest → NoMark k.Arrow rest → IsRefused {X = (List Expr × List (List Expr)) × ℕ} closed (more_tests_in c) rest rest Syntax
+pub more_tests_refused : {most : Limits} (c : Context) (rest : List Word) → NoMark k.Comma rest → NoMark k.Semicolon rest → NoMark k.Arrow rest → IsRefused most {X = (List Expr × List (List Expr)) × ℕ} closed (more_tests_in c) rest rest Syntax
 more_tests_refused c rest a b e = record {
   front = [];
   whole = refl;
@@ -172,5 +172,5 @@ tests_lengthen l c _ _ d gs t w h (expands _ (end_tests c_0 d_0 q0) (takes u kk 
 pub behind_test : (c : Context) → Behind {X = Placed Expr} {Y = (List Expr × List (List Expr)) × ℕ} (extends 0) closed (λ p. more_tests_in c)
 behind_test c = record { behind = λ l p q gs f t w h d. tests_lengthen l c q.0.0 q.0.1 q.1 gs t w h d }
 
-pub tests_spelled : (c : Context) → Spelled {X = Placed Expr} {Y = (List Expr × List (List Expr)) × ℕ} (λ p. more_tests_in c) (mark_word k.Arrow ∷ [])
+pub tests_spelled : {most : Limits} (c : Context) → Spelled most {X = Placed Expr} {Y = (List Expr × List (List Expr)) × ℕ} (λ p. more_tests_in c) (mark_word k.Arrow ∷ [])
 tests_spelled c = record { tree = λ p. (([], []), 0); spelled = λ l v p gs w d. expands _ (end_tests c 0 refl) (takes (mark_word k.Arrow) refl d) }

@@ -7,7 +7,7 @@ use Rattle.erl_syntax.specs.declared.expr.Expr.{Expr}
 use Rattle.erl_syntax.specs.declared.pattern.Pattern.{Pattern}
 use Rattle.erl_syntax.specs.declared.clause.Item.{Item}
 use Rattle.erl_syntax.specs.Word.{Word}
-use Rattle.erl_syntax.specs.Grammar.{Context, Limits, strict, Goal, Mark, Of, Level, Pat, AnItem, item_match, item_value, Spells, ends, takes, expands}
+use Rattle.erl_syntax.specs.Grammar.{Context, Limits, Goal, Mark, Of, Level, Pat, AnItem, item_match, item_value, Spells, ends, takes, expands}
 use Rattle.pattern_read.specs.declared.placed.Placed.{Placed}
 use Rattle.pattern_read.specs.declared.fault.Cause.{Cause}
 use Rattle.pattern_read.specs.Reading.{Passes, IsRefused, IsWide, Follows, SameHead, closed, nothing}
@@ -21,9 +21,10 @@ use Rattle.pattern_read.proofs.Operands.{some_word, some_expr, level_completed}
 use Rattle.body_read.proofs.Walk.{Barred, shape}
 use Rattle.body_read.proofs.Groups.{Whole, Group, apart, cut, level_whole, pat_group}
 use Rattle.body_read.proofs.Choices.{either_of, both_refused}
+use Rattle.pattern_read.specs.Source.{Readable}
 
-pub strict_wide : IsWide strict
-strict_wide = record { trees = omega arith; brackets = omega arith }
+pub itself_wide : (most : Limits) → IsWide most most
+itself_wide most = record { trees = omega arith; brackets = omega arith }
 
 -- ---- A pattern's tokens with a mark behind them
 
@@ -101,7 +102,7 @@ item_made : (l : Limits) (c : Context) (s : (Placed Pattern × (Item × ℕ)) �
 item_made l c (inl p) gs w d = expands _ (item_match c p.1.0.patterns p.1.0.value _ _ p.0.at p.0.tree p.0.height p.1.1 refl refl) d
 item_made l c (inr y) gs w d = expands _ (item_value c _ _ y.at y.tree refl) d
 
-on_item : (c : Context) (from : List Word) → Passes item_longer (item_in c) from (either_of (match_and_more c) (level_in 0 c)) from made_item
+on_item : {most : Limits} (c : Context) (from : List Word) → Passes most item_longer (item_in c) from (either_of (match_and_more c) (level_in 0 c)) from made_item
 on_item c from = record {
   front = [];
   whole = refl;
@@ -129,18 +130,18 @@ same_items _ h = cc
 
 -- ---- An expression behind which no `=` stands is the item
 
-value_forth : (l : Limits) (c : Context) (y : Placed Expr) (from re : List Word) (p : Passes (extends 0) (level_in 0 c) from nothing re (λ u. y)) → NoneOf goes_same re → (x : Item × ℕ) (gs : List Goal) (w : List Word) → Follows l item_longer gs → SameHead w re →
+value_forth : {most : Limits} (l : Limits) (c : Context) (y : Placed Expr) (from re : List Word) (p : Passes most (extends 0) (level_in 0 c) from nothing re (λ u. y)) → NoneOf goes_same re → (x : Item × ℕ) (gs : List Goal) (w : List Word) → Follows l item_longer gs → SameHead w re →
     (s : (Placed Pattern × (Item × ℕ)) ⊎ Placed Expr) → x ≡ made_item s → Spells l (either_of (match_and_more c) (level_in 0 c) s ++ gs) (p.front ++ w) → (u : Unit {0}) × (x ≡ value_item y) × Spells l gs w
 value_forth l c y from re p n x gs w f h (inl q) e d =
     let b : BarAt goes_same (p.front ++ w) = pat_bar refl d in
-    let o : Whole p.front = level_whole (spells_at (append-nil p.front) (p.back strict strict_wide tt [] [] ends)) in
+    let o : Whole p.front = level_whole (spells_at (append-nil p.front) (p.back _ (itself_wide _) tt [] [] ends)) in
     let r = after_whole p.front w same_within o b in
     absurd (no_bar_there re w n h r.0 r.1 r.2 r.3)
 value_forth l c y from re p n x gs w f h (inr z) e d =
     let m = p.forth l z gs w (follows_within item_within f) h d in
     (tt, e ∙ ap value_item m.1, m.2)
 
-pub value_passes : (c : Context) (y : Placed Expr) (from re : List Word) → NoneOf goes_same re → Passes (extends 0) (level_in 0 c) from nothing re (λ u. y) → Passes item_longer (item_in c) from nothing re (λ u. value_item y)
+pub value_passes : {most : Limits} (c : Context) (y : Placed Expr) (from re : List Word) → NoneOf goes_same re → Passes most (extends 0) (level_in 0 c) from nothing re (λ u. y) → Passes most item_longer (item_in c) from nothing re (λ u. value_item y)
 value_passes c y from re n p = record {
   front = p.front;
   whole = p.whole;
@@ -150,17 +151,17 @@ value_passes c y from re n p = record {
 
 -- ---- A pattern with its `=` is the item's own
 
-matched_forth : (l : Limits) (c : Context) (y : Placed Pattern) (from rm : List Word) (p : Passes closed (matched_in c) from nothing rm (λ u. y)) (x : Item × ℕ) (gs : List Goal) (w : List Word) → Follows l item_longer gs → SameHead w rm →
+matched_forth : {most : Limits} (l : Limits) (c : Context) (y : Placed Pattern) (from rm : List Word) (p : Passes most closed (matched_in c) from nothing rm (λ u. y)) (x : Item × ℕ) (gs : List Goal) (w : List Word) → Follows l item_longer gs → SameHead w rm →
     (s : (Placed Pattern × (Item × ℕ)) ⊎ Placed Expr) → x ≡ made_item s → Spells l (either_of (match_and_more c) (level_in 0 c) s ++ gs) (p.front ++ w) → (r : Item × ℕ) × (x ≡ with_pattern y r) × Spells l (item_in c r ++ gs) w
 matched_forth l c y from rm p x gs w f h (inl q) e d =
     let m = p.forth l q.0 (item_in c q.1 ++ gs) w (λ t v i j. cc) h d in
     (q.1, e ∙ ap (λ v. with_pattern v q.1) m.1, m.2)
 matched_forth l c y from rm p x gs w f h (inr z) e d =
-    let b : BarAt goes_same (p.front ++ []) = pat_bar refl (p.back strict strict_wide tt [] [] ends) in
+    let b : BarAt goes_same (p.front ++ []) = pat_bar refl (p.back _ (itself_wide _) tt [] [] ends) in
     let r = bar_behind_level same_within (bar_longer p.front w b) d in
     absurd (f r.0 r.1 (same_items r.0.kind r.2) r.3)
 
-pub matched_passes : (c : Context) (y : Placed Pattern) (from rm : List Word) → Passes closed (matched_in c) from nothing rm (λ u. y) → Passes item_longer (item_in c) from (item_in c) rm (λ r. with_pattern y r)
+pub matched_passes : {most : Limits} (c : Context) (y : Placed Pattern) (from rm : List Word) → Passes most closed (matched_in c) from nothing rm (λ u. y) → Passes most item_longer (item_in c) from (item_in c) rm (λ r. with_pattern y r)
 matched_passes c y from rm p = record {
   front = p.front;
   whole = p.whole;
@@ -170,9 +171,9 @@ matched_passes c y from rm p = record {
 
 -- ---- Both are refused
 
-item_spelled : (c : Context) → Spelled {X = Placed Pattern} {Y = Item × ℕ} (λ p. item_in c) (some_word ∷ [])
+item_spelled : {most : Limits} (c : Context) → Spelled most {X = Placed Pattern} {Y = Item × ℕ} (λ p. item_in c) (some_word ∷ [])
 item_spelled c = record { tree = λ p. value_item some_expr; spelled = λ l i p gs w d. expands _ (item_value c _ _ _ _ refl) (level_completed 0 l c gs w d) }
 
-pub item_refused : (c : Context) (ws : List Word) (at i j n : ℕ) (a b why : Cause) → IsRefused closed (matched_in c) (drop at ws) (drop i ws) a → IsRefused item_longer (level_in 0 c) (drop at ws) (drop j ws) b → IsFarther i a j b n why → IsRefused item_longer (item_in c) (drop at ws) (drop n ws) why
+pub item_refused : (c : Context) (ws : Readable) (at i j n : ℕ) (a b why : Cause) → IsRefused ws.limits closed (matched_in c) (drop at ws.words) (drop i ws.words) a → IsRefused ws.limits item_longer (level_in 0 c) (drop at ws.words) (drop j ws.words) b → IsFarther i a j b n why → IsRefused ws.limits item_longer (item_in c) (drop at ws.words) (drop n ws.words) why
 item_refused c ws at i j n a b why p q h =
-    refused_after (same_kinds item_longer) (on_item c (drop at ws)) (both_refused ws (drop at ws) i j n a b why (refused_first (behind_closed item_longer (λ y. item_in c)) (item_spelled c) p) q h)
+    refused_after (same_kinds item_longer) (on_item c (drop at ws.words)) (both_refused ws (drop at ws.words) i j n a b why (refused_first (behind_closed item_longer (λ y. item_in c)) (item_spelled c) p) q h)

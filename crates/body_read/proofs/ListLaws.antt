@@ -32,7 +32,7 @@ no_list_forth : (l : Limits) (c : Context) (at : Span) (e : Expr) (d : ℕ) (gs 
 no_list_forth l c at e d gs j w h (expands _ (no_list c_0 at_0 e_0 d_0 q0 q1) (takes t kk z)) = (q0, q1, z)
 no_list_forth l c at e d gs j w h (expands _ (list_first c_0 at_0 e_0 d_0 ay y dy q0) z) = absurd (no_begin refl h (first_level l 0 (inside (under c)) ay y dy (Of (AfterFirst c at y dy e d) ∷ gs) j w z))
 
-pub on_no_list : (c : Context) (at : Span) (j : Word) (rest : List Word) → j.kind ≡ k.RightBracket → Passes {X = Expr × ℕ} closed (list_in c at) (j ∷ rest) nothing rest (λ u. (x.List at [] [], 1))
+pub on_no_list : {most : Limits} (c : Context) (at : Span) (j : Word) (rest : List Word) → j.kind ≡ k.RightBracket → Passes most {X = Expr × ℕ} closed (list_in c at) (j ∷ rest) nothing rest (λ u. (x.List at [] [], 1))
 on_no_list c at j rest h = record {
   front = j ∷ [];
   whole = refl;
@@ -51,8 +51,8 @@ first_forth l c at e d gs rest w n s (expands _ (list_first c_0 at_0 e_0 d_0 ay 
 first_forth l c at e d gs _ w no_mark_end s (expands _ (no_list c_0 at_0 e_0 d_0 q0 q1) (takes t kk z)) = absurd s
 first_forth l c at e d gs _ w (no_mark j rest n) s (expands _ (no_list c_0 at_0 e_0 d_0 q0 q1) (takes t kk z)) = absurd (n (ap (λ v. v.kind) (sym s) ∙ kk))
 
-pub on_first : (c : Context) (at : Span) (rest : List Word) → c.deep + 1 ≤ 256 → NoMark k.RightBracket rest →
-    Passes {X = Expr × ℕ} {Y = Placed Expr × (Expr × ℕ)} closed (list_in c at) rest (λ p. level_in 0 (inside (under c)) p.0 ++ after_first_in c at p.0 p.1) rest (λ p. p.1)
+pub on_first : {most : Limits} (c : Context) (at : Span) (rest : List Word) → c.deep + 1 ≤ most.trees → NoMark k.RightBracket rest →
+    Passes most {X = Expr × ℕ} {Y = Placed Expr × (Expr × ℕ)} closed (list_in c at) rest (λ p. level_in 0 (inside (under c)) p.0 ++ after_first_in c at p.0 p.1) rest (λ p. p.1)
 on_first c at rest b n = record {
   front = [];
   whole = refl;
@@ -64,7 +64,7 @@ closed_first : (l : Limits) (c : Context) (at : Span) (y : Placed Expr) (gs : Li
 closed_first l c at y gs w d = expands _ (list_items c at y.tree y.height _ _ [] [] 0 refl refl) (expands _ (end_list (inside (under c)) 0 refl) (takes (mark_word k.RightBracket) refl d))
 
 -- what goes on with `]` behind a first item
-pub first_completed : (c : Context) (at : Span) → Spelled {X = Placed Expr} {Y = Expr × ℕ} (after_first_in c at) (mark_word k.RightBracket ∷ [])
+pub first_completed : {most : Limits} (c : Context) (at : Span) → Spelled most {X = Placed Expr} {Y = Expr × ℕ} (after_first_in c at) (mark_word k.RightBracket ∷ [])
 first_completed c at = record { tree = λ y. (x.List at (y.tree ∷ []) [], max y.height 0 + 1); spelled = λ l v y gs w d. closed_first l c at y gs w d }
 
 items_lengthen : (l : Limits) (c : Context) (ys tail : List Expr) (d : ℕ) (gs : List Goal) (j : Word) (w : List Word) → IsTrue (extends 0 j.kind) → Spells l (Of (ListItems c ys tail d) ∷ gs) (j ∷ w) → ⊥
@@ -82,8 +82,8 @@ behind_first_item c at = record { behind = λ l p q gs f t w h d. first_lengthen
 head_not : {kind : TokenKind} {j : Word} {rest : List Word} → NoMark kind (j ∷ rest) → j.kind ≡ kind → ⊥
 head_not (no_mark j rest f) = f
 
-pub first_too_deep : (c : Context) (at : Span) (j : Word) (rest : List Word) → NoMark k.RightBracket (j ∷ rest) → Begun (inside (under c)) j → 256 < c.deep + 1 → IsRefused {X = Expr × ℕ} closed (list_in c at) (j ∷ rest) (j ∷ rest) TooDeep
-first_too_deep c at j rest n g b = record {
+pub first_too_deep : {most : Limits} (c : Context) (at : Span) (j : Word) (rest : List Word) → NoMark k.RightBracket (j ∷ rest) → Begun most (inside (under c)) j → most.trees < c.deep + 1 → IsRefused most {X = Expr × ℕ} closed (list_in c at) (j ∷ rest) (j ∷ rest) TooDeep
+first_too_deep {most = most} c at j rest n g b = record {
   front = [];
   whole = refl;
   tree = (x.List at [] [], 1);
@@ -91,8 +91,8 @@ first_too_deep c at j rest n g b = record {
   goes_on = λ l v gs w d. list_empty l c at gs w d;
   stops = λ l i r gs w f s d. let m = first_forth l c at r.0 r.1 gs (j ∷ rest) w n s d in let a : c.deep + 1 ≤ l.trees = m.0 in omega (arith, i.trees);
   excused = record {
-    limits = deeper (c.deep + 1 + 1) (c.open_ + 1 + 1);
-    wide = deeper_wide (c.deep + 1 + 1) (c.open_ + 1 + 1);
+    limits = deeper most (c.deep + 1 + 1) (c.open_ + 1 + 1);
+    wide = deeper_wide most (c.deep + 1 + 1) (c.open_ + 1 + 1);
     allows = (refl, refl);
     first = j;
     behind = rest;
@@ -100,14 +100,14 @@ first_too_deep c at j rest n g b = record {
     tree = (x.List at (g.tree.tree ∷ []) [], max g.tree.height 0 + 1);
     more = g.more ++ (mark_word k.RightBracket ∷ []);
     goes_on = λ gs w d.
-        let room : c.deep + 1 ≤ 256 + (c.deep + 1 + 1) = omega arith in
+        let room : c.deep + 1 ≤ most.trees + (c.deep + 1 + 1) = omega arith in
         expands _ (list_first c at _ _ g.tree.at g.tree.tree g.tree.height room)
         (spells_at (ap (λ v. j ∷ v) (sym (append_assoc g.more (mark_word k.RightBracket ∷ []) w)))
-        (level_with 0 (deeper (c.deep + 1 + 1) (c.open_ + 1 + 1)) (inside (under c)) g.tree (j ∷ g.more) (λ hs v e. g.spelled hs v e) _ _ (closed_first (deeper (c.deep + 1 + 1) (c.open_ + 1 + 1)) c at g.tree gs w d)));
+        (level_with 0 (deeper most (c.deep + 1 + 1) (c.open_ + 1 + 1)) (inside (under c)) g.tree (j ∷ g.more) (λ hs v e. g.spelled hs v e) _ _ (closed_first (deeper most (c.deep + 1 + 1) (c.open_ + 1 + 1)) c at g.tree gs w d)));
   };
 }
 
-pub no_first_there : (s : Setting) (c : Context) (at : Span) (rest : List Word) → c.mode ≡ mode_of s → NoMark k.RightBracket rest → NoneBegins s rest → IsRefused {X = Expr × ℕ} closed (list_in c at) rest rest Syntax
+pub no_first_there : {most : Limits} (s : Setting) (c : Context) (at : Span) (rest : List Word) → c.mode ≡ mode_of s → NoMark k.RightBracket rest → NoneBegins s rest → IsRefused most {X = Expr × ℕ} closed (list_in c at) rest rest Syntax
 no_first_there s c at rest m n b = record {
   front = [];
   whole = refl;
@@ -130,8 +130,8 @@ row_forth : (l : Limits) (c : Context) (at : Span) (y : Expr) (dy : ℕ) (e : Ex
 row_forth l c at y dy e d gs j w h (expands _ (list_for c_0 at_0 y_0 dy_0 e_0 d_0 qs dq q0 q1 q2) (takes t kk z)) = ((qs, dq), q1, q2, z)
 row_forth l c at y dy e d gs j w h (expands _ (list_items c_0 at_0 y_0 dy_0 e_0 d_0 ys tail dys q0 q1) z) = absurd (no_bar_items l (inside (under c)) ys tail dys gs j w h z)
 
-pub on_list_row : (c : Context) (at : Span) (y : Placed Expr) (j : Word) (rest : List Word) → c.mode ≡ InBody → j.kind ≡ k.DoubleBar →
-    Passes {X = Expr × ℕ} {Y = List Qual × ℕ} closed (after_first_in c at y) (j ∷ rest) (quals_in k.RightBracket (inside (under c))) rest (λ r. (x.ListFor at (y.tree ∷ []) r.0, max y.height r.1 + 1))
+pub on_list_row : {most : Limits} (c : Context) (at : Span) (y : Placed Expr) (j : Word) (rest : List Word) → c.mode ≡ InBody → j.kind ≡ k.DoubleBar →
+    Passes most {X = Expr × ℕ} {Y = List Qual × ℕ} closed (after_first_in c at y) (j ∷ rest) (quals_in k.RightBracket (inside (under c))) rest (λ r. (x.ListFor at (y.tree ∷ []) r.0, max y.height r.1 + 1))
 on_list_row c at y j rest m h = record {
   front = j ∷ [];
   whole = refl;
@@ -148,8 +148,8 @@ items_forth : (l : Limits) (c : Context) (at : Span) (y : Expr) (dy : ℕ) (e : 
 items_forth l c at y dy e d gs rest w n s (expands _ (list_items c_0 at_0 y_0 dy_0 e_0 d_0 ys tail dys q0 q1) z) = (((ys, tail), dys), q0, q1, z)
 items_forth l c at y dy e d gs rest _ n s (expands _ (list_for c_0 at_0 y_0 dy_0 e_0 d_0 qs dq q0 q1 q2) (takes {w = u} t kk z)) = absurd (no_bar_head rest t u (n q0) s kk)
 
-pub on_items : (c : Context) (at : Span) (y : Placed Expr) (rest : List Word) → NoRow c.mode rest →
-    Passes {X = Expr × ℕ} {Y = (List Expr × List Expr) × ℕ} closed (after_first_in c at y) rest (list_items_in (inside (under c))) rest (λ q. (x.List at (y.tree ∷ q.0.0) q.0.1, max y.height q.1 + 1))
+pub on_items : {most : Limits} (c : Context) (at : Span) (y : Placed Expr) (rest : List Word) → NoRow c.mode rest →
+    Passes most {X = Expr × ℕ} {Y = (List Expr × List Expr) × ℕ} closed (after_first_in c at y) rest (list_items_in (inside (under c))) rest (λ q. (x.List at (y.tree ∷ q.0.0) q.0.1, max y.height q.1 + 1))
 on_items c at y rest n = record {
   front = [];
   whole = refl;
@@ -168,8 +168,8 @@ comma_forth l c _ tail d gs j w h (expands _ (next_item c_0 ay y dy ys tail_0 dy
 comma_forth l c _ _ d gs j w h (expands _ (list_tail c_0 ay y d_0) (takes t kk z)) = cc
 comma_forth l c _ _ d gs j w h (expands _ (end_list c_0 d_0 q0) (takes t kk z)) = cc
 
-pub on_next_item : (c : Context) (j : Word) (rest : List Word) → j.kind ≡ k.Comma →
-    Passes {X = (List Expr × List Expr) × ℕ} {Y = Placed Expr × ((List Expr × List Expr) × ℕ)} closed (list_items_in c) (j ∷ rest) (λ p. level_in 0 c p.0 ++ list_items_in c p.1) rest (λ p. ((p.0.tree ∷ p.1.0.0, p.1.0.1), max p.0.height p.1.1))
+pub on_next_item : {most : Limits} (c : Context) (j : Word) (rest : List Word) → j.kind ≡ k.Comma →
+    Passes most {X = (List Expr × List Expr) × ℕ} {Y = Placed Expr × ((List Expr × List Expr) × ℕ)} closed (list_items_in c) (j ∷ rest) (λ p. level_in 0 c p.0 ++ list_items_in c p.1) rest (λ p. ((p.0.tree ∷ p.1.0.0, p.1.0.1), max p.0.height p.1.1))
 on_next_item c j rest h = record {
   front = j ∷ [];
   whole = refl;
@@ -183,8 +183,8 @@ bar_forth l c _ tail d gs j w h (expands _ (next_item c_0 ay y dy ys tail_0 dys 
 bar_forth l c _ _ d gs j w h (expands _ (list_tail c_0 ay y d_0) (takes t kk z)) = (record { at = ay; tree = y; height = d }, refl, refl, refl, z)
 bar_forth l c _ _ d gs j w h (expands _ (end_list c_0 d_0 q0) (takes t kk z)) = cc
 
-pub on_tail : (c : Context) (j : Word) (rest : List Word) → j.kind ≡ k.Bar →
-    Passes {X = (List Expr × List Expr) × ℕ} {Y = Placed Expr} closed (list_items_in c) (j ∷ rest) (last_in k.RightBracket c) rest (λ y. (([], y.tree ∷ []), y.height))
+pub on_tail : {most : Limits} (c : Context) (j : Word) (rest : List Word) → j.kind ≡ k.Bar →
+    Passes most {X = (List Expr × List Expr) × ℕ} {Y = Placed Expr} closed (list_items_in c) (j ∷ rest) (last_in k.RightBracket c) rest (λ y. (([], y.tree ∷ []), y.height))
 on_tail c j rest h = record {
   front = j ∷ [];
   whole = refl;
@@ -197,7 +197,7 @@ close_forth l c _ tail d gs j w h (expands _ (next_item c_0 ay y dy ys tail_0 dy
 close_forth l c _ _ d gs j w h (expands _ (list_tail c_0 ay y d_0) (takes t kk z)) = cc
 close_forth l c _ _ d gs j w h (expands _ (end_list c_0 d_0 q0) (takes t kk z)) = (refl, refl, q0, z)
 
-pub on_end_list : (c : Context) (j : Word) (rest : List Word) → j.kind ≡ k.RightBracket → Passes {X = (List Expr × List Expr) × ℕ} closed (list_items_in c) (j ∷ rest) nothing rest (λ u. (([], []), 0))
+pub on_end_list : {most : Limits} (c : Context) (j : Word) (rest : List Word) → j.kind ≡ k.RightBracket → Passes most {X = (List Expr × List Expr) × ℕ} closed (list_items_in c) (j ∷ rest) nothing rest (λ u. (([], []), 0))
 on_end_list c j rest h = record {
   front = j ∷ [];
   whole = refl;
@@ -213,7 +213,7 @@ items_stop l c _ _ d gs _ w n (no_mark j rest a) b s (expands _ (list_tail c_0 a
 items_stop l c _ _ d gs _ w n a no_mark_end s (expands _ (end_list c_0 d_0 q0) (takes t kk z)) = s
 items_stop l c _ _ d gs _ w n a (no_mark j rest b) s (expands _ (end_list c_0 d_0 q0) (takes t kk z)) = b (ap (λ v. v.kind) (sym s) ∙ kk)
 
-pub items_refused : (c : Context) (rest : List Word) → NoMark k.Comma rest → NoMark k.Bar rest → NoMark k.RightBracket rest → IsRefused {X = (List Expr × List Expr) × ℕ} closed (list_items_in c) rest rest Syntax
+pub items_refused : {most : Limits} (c : Context) (rest : List Word) → NoMark k.Comma rest → NoMark k.Bar rest → NoMark k.RightBracket rest → IsRefused most {X = (List Expr × List Expr) × ℕ} closed (list_items_in c) rest rest Syntax
 items_refused c rest n a b = record {
   front = [];
   whole = refl;
@@ -227,12 +227,12 @@ items_refused c rest n a b = record {
 pub behind_item : (c : Context) → Behind {X = Placed Expr} {Y = (List Expr × List Expr) × ℕ} (extends 0) closed (λ p. list_items_in c)
 behind_item c = record { behind = λ l p q gs f t w h d. items_lengthen l c q.0.0 q.0.1 q.1 gs t w h d }
 
-pub items_spelled : (c : Context) → Spelled {X = Placed Expr} {Y = (List Expr × List Expr) × ℕ} (λ p. list_items_in c) (mark_word k.RightBracket ∷ [])
+pub items_spelled : {most : Limits} (c : Context) → Spelled most {X = Placed Expr} {Y = (List Expr × List Expr) × ℕ} (λ p. list_items_in c) (mark_word k.RightBracket ∷ [])
 items_spelled c = record { tree = λ p. (([], []), 0); spelled = λ l v p gs w d. expands _ (end_list c 0 refl) (takes (mark_word k.RightBracket) refl d) }
 
 -- ---- An expression and its closing bracket
 
-pub on_last : (close : TokenKind) (c : Context) (rest : List Word) → Passes {X = Placed Expr} {Y = Placed Expr × Unit {0}} closed (last_in close c) rest (λ p. level_in 0 c p.0 ++ mark_in close p.1) rest (λ p. p.0)
+pub on_last : {most : Limits} (close : TokenKind) (c : Context) (rest : List Word) → Passes most {X = Placed Expr} {Y = Placed Expr × Unit {0}} closed (last_in close c) rest (λ p. level_in 0 c p.0 ++ mark_in close p.1) rest (λ p. p.0)
 on_last close c rest = record {
   front = [];
   whole = refl;

@@ -9,7 +9,7 @@ use Rattle.erl_syntax.specs.declared.segment.Segment.{Segment}
 use Rattle.erl_syntax.specs.declared.qual.Qual.{Qual}
 use Rattle.erl_syntax.specs.declared.qual.Qual.TheVariants as q
 use Rattle.erl_syntax.specs.Word.{Word}
-use Rattle.erl_syntax.specs.Grammar.{Context, Limits, strict, Goal, Mark, At, Of, Pat, APattern, SameTail, PatternBits, AQual, pattern, same, not_same, generator, bits_generator, filter, Spells, ends, begins, expands}
+use Rattle.erl_syntax.specs.Grammar.{Context, Limits, Goal, Mark, At, Of, Pat, APattern, SameTail, PatternBits, AQual, pattern, same, not_same, generator, bits_generator, filter, Spells, ends, begins, expands}
 use Rattle.pattern_read.specs.declared.placed.Placed.{Placed}
 use Rattle.pattern_read.specs.declared.fault.Cause.{Cause}
 use Rattle.pattern_read.specs.Reading.{Passes, IsRefused, Follows, SameHead, closed, nothing}
@@ -22,7 +22,8 @@ use Rattle.pattern_read.proofs.Operands.{some_word, some_expr, level_completed}
 use Rattle.body_read.proofs.Walk.{Floor, Inside, shape, walks}
 use Rattle.body_read.proofs.Groups.{Whole, Group, bracket, group_whole, cut, level_whole, pat_group}
 use Rattle.body_read.proofs.Choices.{either_of, both_refused}
-use Rattle.body_read.proofs.ItemLaws.{BarAt, bar_longer, after_whole, bar_behind_level, marked, no_bar_there, strict_wide}
+use Rattle.body_read.proofs.ItemLaws.{BarAt, bar_longer, after_whole, bar_behind_level, marked, no_bar_there, itself_wide}
+use Rattle.pattern_read.specs.Source.{Readable}
 
 -- ---- The three ways of a qualifier
 
@@ -65,7 +66,7 @@ qual_made l c (inl p) gs w b d = expands _ (generator c _ _ p.0.at p.0.tree p.0.
 qual_made l c (inr (inl p)) gs w b d = expands _ (bits_generator c _ _ p.0.at p.0.tree p.0.height p.1.at p.1.tree p.1.height b refl refl) d
 qual_made l c (inr (inr y)) gs w b d = expands _ (filter c _ _ y.at y.tree refl) d
 
-on_qual : (c : Context) (from : List Word) → c.open_ < 64 → Passes qual_longer (qual_in c) from (ways_in c) from made_qual
+on_qual : {most : Limits} (c : Context) (from : List Word) → c.open_ < most.brackets → Passes most qual_longer (qual_in c) from (ways_in c) from made_qual
 on_qual c from b = record {
   front = [];
   whole = refl;
@@ -97,7 +98,7 @@ plain_made : (l : Limits) (c : Context) (s : Plain) (gs : List Goal) (w : List W
 plain_made l c (inl p) gs w d = expands _ (generator c _ _ p.0.at p.0.tree p.0.height p.1.at p.1.tree p.1.height refl refl) d
 plain_made l c (inr y) gs w d = expands _ (filter c _ _ y.at y.tree refl) d
 
-on_plain : (c : Context) (from : List Word) → NoMark k.LeftBits from → Passes qual_longer (qual_in c) from (plain_in c) from made_plain
+on_plain : {most : Limits} (c : Context) (from : List Word) → NoMark k.LeftBits from → Passes most qual_longer (qual_in c) from (plain_in c) from made_plain
 on_plain c from n = record {
   front = [];
   whole = refl;
@@ -173,21 +174,21 @@ two_bars w a b =
 bar_of : (bar : TokenKind → Bool) (w : List Word) → Within bar bars → BarAt bar w → BarAt bars w
 bar_of bar w n b = record { group = b.group; mark = b.mark; behind = b.behind; both = b.both; is_group = b.is_group; is_bar = n.within b.mark.kind b.is_bar }
 
-filter_forth : (l : Limits) (c : Context) (y : Placed Expr) (from re : List Word) (p : Passes (extends 0) (level_in 0 c) from nothing re (λ u. y)) → NoneOf bars re → (x : Qual × ℕ) (gs : List Goal) (w : List Word) → Follows l qual_longer gs → SameHead w re →
+filter_forth : {most : Limits} (l : Limits) (c : Context) (y : Placed Expr) (from re : List Word) (p : Passes most (extends 0) (level_in 0 c) from nothing re (λ u. y)) → NoneOf bars re → (x : Qual × ℕ) (gs : List Goal) (w : List Word) → Follows l qual_longer gs → SameHead w re →
     (s : Ways) → x ≡ made_qual s → Spells l (ways_in c s ++ gs) (p.front ++ w) → (u : Unit {0}) × (x ≡ filter_qual y) × Spells l gs w
 filter_forth l c y from re p n x gs w f h (inl i) e d =
-    let o : Whole p.front = level_whole (spells_at (append-nil p.front) (p.back strict strict_wide tt [] [] ends)) in
+    let o : Whole p.front = level_whole (spells_at (append-nil p.front) (p.back _ (itself_wide _) tt [] [] ends)) in
     let r = after_whole p.front w (same_kinds bars) o (bar_of arrows (p.front ++ w) arrows_within (pattern_bar d)) in
     absurd (no_bar_there re w n h r.0 r.1 r.2 r.3)
 filter_forth l c y from re p n x gs w f h (inr (inl i)) e d =
-    let o : Whole p.front = level_whole (spells_at (append-nil p.front) (p.back strict strict_wide tt [] [] ends)) in
+    let o : Whole p.front = level_whole (spells_at (append-nil p.front) (p.back _ (itself_wide _) tt [] [] ends)) in
     let r = after_whole p.front w (same_kinds bars) o (bar_of wide_arrow (p.front ++ w) wide_within (bits_bar d)) in
     absurd (no_bar_there re w n h r.0 r.1 r.2 r.3)
 filter_forth l c y from re p n x gs w f h (inr (inr z)) e d =
     let m = p.forth l z gs w (follows_within qual_within f) h d in
     (tt, e ∙ ap filter_qual m.1, m.2)
 
-pub filter_passes : (c : Context) (y : Placed Expr) (from re : List Word) → NoneOf bars re → Passes (extends 0) (level_in 0 c) from nothing re (λ u. y) → Passes qual_longer (qual_in c) from nothing re (λ u. filter_qual y)
+pub filter_passes : {most : Limits} (c : Context) (y : Placed Expr) (from re : List Word) → NoneOf bars re → Passes most (extends 0) (level_in 0 c) from nothing re (λ u. y) → Passes most qual_longer (qual_in c) from nothing re (λ u. filter_qual y)
 filter_passes c y from re n p = record {
   front = p.front;
   whole = p.whole;
@@ -197,19 +198,19 @@ filter_passes c y from re n p = record {
 
 -- ---- A pattern with its arrow is a generator's
 
-generated_forth : (l : Limits) (c : Context) (y : Placed Pattern) (from rm : List Word) (p : Passes closed (generated_in c) from nothing rm (λ u. y)) (x : Qual × ℕ) (gs : List Goal) (w : List Word) → Follows l qual_longer gs → SameHead w rm →
+generated_forth : {most : Limits} (l : Limits) (c : Context) (y : Placed Pattern) (from rm : List Word) (p : Passes most closed (generated_in c) from nothing rm (λ u. y)) (x : Qual × ℕ) (gs : List Goal) (w : List Word) → Follows l qual_longer gs → SameHead w rm →
     (s : Ways) → x ≡ made_qual s → Spells l (ways_in c s ++ gs) (p.front ++ w) → (r : Placed Expr) × (x ≡ items_qual y r) × Spells l (level_in 0 c r ++ gs) w
 generated_forth l c y from rm p x gs w f h (inl i) e d =
     let m = p.forth l i.0 (level_in 0 c i.1 ++ gs) w (λ t v a b. cc) h d in
     (i.1, e ∙ ap (λ v. items_qual v i.1) m.1, m.2)
 generated_forth l c y from rm p x gs w f h (inr (inl i)) e d =
-    absurd (two_bars (p.front ++ w) (bar_longer p.front w (pattern_bar (p.back strict strict_wide tt [] [] ends))) (bits_bar d))
+    absurd (two_bars (p.front ++ w) (bar_longer p.front w (pattern_bar (p.back _ (itself_wide _) tt [] [] ends))) (bits_bar d))
 generated_forth l c y from rm p x gs w f h (inr (inr z)) e d =
-    let b : BarAt arrows (p.front ++ []) = pattern_bar (p.back strict strict_wide tt [] [] ends) in
+    let b : BarAt arrows (p.front ++ []) = pattern_bar (p.back _ (itself_wide _) tt [] [] ends) in
     let r = bar_behind_level arrows_within (bar_longer p.front w b) d in
     absurd (f r.0 r.1 (bars_longer r.0.kind (arrow_bars r.0.kind r.2)) r.3)
 
-pub generated_passes : (c : Context) (y : Placed Pattern) (from rm : List Word) → Passes closed (generated_in c) from nothing rm (λ u. y) → Passes qual_longer (qual_in c) from (level_in 0 c) rm (λ r. items_qual y r)
+pub generated_passes : {most : Limits} (c : Context) (y : Placed Pattern) (from rm : List Word) → Passes most closed (generated_in c) from nothing rm (λ u. y) → Passes most qual_longer (qual_in c) from (level_in 0 c) rm (λ r. items_qual y r)
 generated_passes c y from rm p = record {
   front = p.front;
   whole = p.whole;
@@ -217,19 +218,19 @@ generated_passes c y from rm p = record {
   forth = λ l x gs w f h d. let m = qual_ways l c x.0 x.1 gs (p.front ++ w) d in generated_forth l c y from rm p x gs w f h m.0 m.1 m.2;
 }
 
-opened_forth : (l : Limits) (c : Context) (y : Placed (List Segment)) (from rm : List Word) (p : Passes closed (opened_in c) from nothing rm (λ u. y)) (x : Qual × ℕ) (gs : List Goal) (w : List Word) → Follows l qual_longer gs → SameHead w rm →
+opened_forth : {most : Limits} (l : Limits) (c : Context) (y : Placed (List Segment)) (from rm : List Word) (p : Passes most closed (opened_in c) from nothing rm (λ u. y)) (x : Qual × ℕ) (gs : List Goal) (w : List Word) → Follows l qual_longer gs → SameHead w rm →
     (s : Ways) → x ≡ made_qual s → Spells l (ways_in c s ++ gs) (p.front ++ w) → (r : Placed Expr) × (x ≡ bits_qual y r) × Spells l (level_in 0 c r ++ gs) w
 opened_forth l c y from rm p x gs w f h (inl i) e d =
-    absurd (two_bars (p.front ++ w) (pattern_bar d) (bar_longer p.front w (bits_bar (p.back strict strict_wide tt [] [] ends))))
+    absurd (two_bars (p.front ++ w) (pattern_bar d) (bar_longer p.front w (bits_bar (p.back _ (itself_wide _) tt [] [] ends))))
 opened_forth l c y from rm p x gs w f h (inr (inl i)) e d =
     let m = p.forth l i.0 (level_in 0 c i.1 ++ gs) w (λ t v a b. cc) h d in
     (i.1, e ∙ ap (λ v. bits_qual v i.1) m.1, m.2)
 opened_forth l c y from rm p x gs w f h (inr (inr z)) e d =
-    let b : BarAt wide_arrow (p.front ++ []) = bits_bar (p.back strict strict_wide tt [] [] ends) in
+    let b : BarAt wide_arrow (p.front ++ []) = bits_bar (p.back _ (itself_wide _) tt [] [] ends) in
     let r = bar_behind_level wide_within (bar_longer p.front w b) d in
     absurd (f r.0 r.1 (bars_longer r.0.kind (wide_bars r.0.kind r.2)) r.3)
 
-pub opened_passes : (c : Context) (y : Placed (List Segment)) (from rm : List Word) → c.open_ < 64 → Passes closed (opened_in c) from nothing rm (λ u. y) → Passes qual_longer (qual_in c) from (level_in 0 c) rm (λ r. bits_qual y r)
+pub opened_passes : {most : Limits} (c : Context) (y : Placed (List Segment)) (from rm : List Word) → c.open_ < most.brackets → Passes most closed (opened_in c) from nothing rm (λ u. y) → Passes most qual_longer (qual_in c) from (level_in 0 c) rm (λ r. bits_qual y r)
 opened_passes c y from rm b p = record {
   front = p.front;
   whole = p.whole;
@@ -239,13 +240,13 @@ opened_passes c y from rm b p = record {
 
 -- ---- Each is refused
 
-level_spelled : {X : Type 0} (c : Context) → Spelled {X = X} {Y = Placed Expr} (λ p. level_in 0 c) (some_word ∷ [])
+level_spelled : {most : Limits} {X : Type 0} (c : Context) → Spelled most {X = X} {Y = Placed Expr} (λ p. level_in 0 c) (some_word ∷ [])
 level_spelled c = record { tree = λ p. some_expr; spelled = λ l i p gs w d. level_completed 0 l c gs w d }
 
-pub plain_refused : (c : Context) (ws : List Word) (at i j n : ℕ) (a b why : Cause) → NoMark k.LeftBits (drop at ws) → IsRefused closed (generated_in c) (drop at ws) (drop i ws) a → IsRefused qual_longer (level_in 0 c) (drop at ws) (drop j ws) b → IsFarther i a j b n why → IsRefused qual_longer (qual_in c) (drop at ws) (drop n ws) why
+pub plain_refused : (c : Context) (ws : Readable) (at i j n : ℕ) (a b why : Cause) → NoMark k.LeftBits (drop at ws.words) → IsRefused ws.limits closed (generated_in c) (drop at ws.words) (drop i ws.words) a → IsRefused ws.limits qual_longer (level_in 0 c) (drop at ws.words) (drop j ws.words) b → IsFarther i a j b n why → IsRefused ws.limits qual_longer (qual_in c) (drop at ws.words) (drop n ws.words) why
 plain_refused c ws at i j n a b why m p q h =
-    refused_after (same_kinds qual_longer) (on_plain c (drop at ws) m) (both_refused ws (drop at ws) i j n a b why (refused_first (behind_closed qual_longer (λ y. level_in 0 c)) (level_spelled c) p) q h)
+    refused_after (same_kinds qual_longer) (on_plain c (drop at ws.words) m) (both_refused ws (drop at ws.words) i j n a b why (refused_first (behind_closed qual_longer (λ y. level_in 0 c)) (level_spelled c) p) q h)
 
-pub ways_refused : (c : Context) (ws : List Word) (at i j m n o : ℕ) (a b d e why : Cause) → c.open_ < 64 → IsRefused closed (generated_in c) (drop at ws) (drop i ws) a → IsRefused closed (opened_in c) (drop at ws) (drop j ws) b → IsRefused qual_longer (level_in 0 c) (drop at ws) (drop m ws) d → IsFarther j b m d n e → IsFarther i a n e o why → IsRefused qual_longer (qual_in c) (drop at ws) (drop o ws) why
+pub ways_refused : (c : Context) (ws : Readable) (at i j m n o : ℕ) (a b d e why : Cause) → c.open_ < ws.limits.brackets → IsRefused ws.limits closed (generated_in c) (drop at ws.words) (drop i ws.words) a → IsRefused ws.limits closed (opened_in c) (drop at ws.words) (drop j ws.words) b → IsRefused ws.limits qual_longer (level_in 0 c) (drop at ws.words) (drop m ws.words) d → IsFarther j b m d n e → IsFarther i a n e o why → IsRefused ws.limits qual_longer (qual_in c) (drop at ws.words) (drop o ws.words) why
 ways_refused c ws at i j m n o a b d e why r p q s g h =
-    refused_after (same_kinds qual_longer) (on_qual c (drop at ws) r) (both_refused ws (drop at ws) i n o a e why (refused_first (behind_closed qual_longer (λ y. level_in 0 c)) (level_spelled c) p) (both_refused ws (drop at ws) j m n b d e (refused_first (behind_closed qual_longer (λ y. level_in 0 c)) (level_spelled c) q) s g) h)
+    refused_after (same_kinds qual_longer) (on_qual c (drop at ws.words) r) (both_refused ws (drop at ws.words) i n o a e why (refused_first (behind_closed qual_longer (λ y. level_in 0 c)) (level_spelled c) p) (both_refused ws (drop at ws.words) j m n b d e (refused_first (behind_closed qual_longer (λ y. level_in 0 c)) (level_spelled c) q) s g) h)

@@ -19,6 +19,7 @@ use Rattle.body_read.specs.WantedExprs.{qual_longer, qual_in, quals_in}
 use Rattle.pattern_read.proofs.Passing.{Behind, Spelled, same_kinds, and_then, first_of_two, fault_after, fault_first, refused_after, refused_at, at_token, remade}
 use Rattle.pattern_read.proofs.Levels.{same_pair, no_prefix}
 use Rattle.pattern_read.proofs.Operands.{some_word, some_expr, level_completed, deeper, deeper_wide, mark_word}
+use Rattle.pattern_read.specs.Source.{Readable}
 
 -- ---- Qualifiers up to a closing bracket
 
@@ -40,7 +41,7 @@ quals_forth : (l : Limits) (close : TokenKind) (c : Context) (qs : List Qual) (d
     (p : (Qual × ℕ) × (List Qual × ℕ)) × (qs ≡ p.0.0 ∷ p.1.0) × (d ≡ max p.0.1 p.1.1) × Spells l (qual_and_more close c p ++ gs) w
 quals_forth l close c _ d gs w (expands _ (quals close_0 c_0 ql dq qs dqs d_0 q0) z) = (((ql, dq), (qs, dqs)), refl, q0, z)
 
-on_quals : (close : TokenKind) (c : Context) (from : List Word) → Passes {X = List Qual × ℕ} {Y = (Qual × ℕ) × (List Qual × ℕ)} closed (quals_in close c) from (qual_and_more close c) from with_more
+on_quals : {most : Limits} (close : TokenKind) (c : Context) (from : List Word) → Passes most {X = List Qual × ℕ} {Y = (Qual × ℕ) × (List Qual × ℕ)} closed (quals_in close c) from (qual_and_more close c) from with_more
 on_quals close c from = record {
   front = [];
   whole = refl;
@@ -53,7 +54,7 @@ comma_forth : (l : Limits) (close : TokenKind) (c : Context) (qs : List Qual) (d
 comma_forth l close c _ d gs j w n h (expands _ (more_quals close_0 c_0 ql dq qs dqs d_0 q0) (takes t kk z)) = (((ql, dq), (qs, dqs)), refl, q0, z)
 comma_forth l close c _ d gs j w n h (expands _ (end_quals close_0 c_0 d_0 q0) (takes t kk z)) = absurd (n.comma (sym kk ∙ h))
 
-on_comma : (close : TokenKind) (c : Context) (j : Word) (rest : List Word) → Ends close → j.kind ≡ k.Comma → Passes {X = List Qual × ℕ} {Y = (Qual × ℕ) × (List Qual × ℕ)} closed (more_quals_in close c) (j ∷ rest) (qual_and_more close c) rest with_more
+on_comma : {most : Limits} (close : TokenKind) (c : Context) (j : Word) (rest : List Word) → Ends close → j.kind ≡ k.Comma → Passes most {X = List Qual × ℕ} {Y = (Qual × ℕ) × (List Qual × ℕ)} closed (more_quals_in close c) (j ∷ rest) (qual_and_more close c) rest with_more
 on_comma close c j rest n h = record {
   front = j ∷ [];
   whole = refl;
@@ -65,7 +66,7 @@ close_forth : (l : Limits) (close : TokenKind) (c : Context) (qs : List Qual) (d
 close_forth l close c _ d gs j w n h (expands _ (more_quals close_0 c_0 ql dq qs dqs d_0 q0) (takes t kk z)) = absurd (n.comma (sym h ∙ kk))
 close_forth l close c _ d gs j w n h (expands _ (end_quals close_0 c_0 d_0 q0) (takes t kk z)) = (refl, q0, z)
 
-on_end : (close : TokenKind) (c : Context) (j : Word) (rest : List Word) → Ends close → j.kind ≡ close → Passes {X = List Qual × ℕ} closed (more_quals_in close c) (j ∷ rest) nothing rest (λ u. ([], 0))
+on_end : {most : Limits} (close : TokenKind) (c : Context) (j : Word) (rest : List Word) → Ends close → j.kind ≡ close → Passes most {X = List Qual × ℕ} closed (more_quals_in close c) (j ∷ rest) nothing rest (λ u. ([], 0))
 on_end close c j rest n h = record {
   front = j ∷ [];
   whole = refl;
@@ -79,7 +80,7 @@ more_stops l close c _ d gs _ w (no_mark j rest a) b s (expands _ (more_quals cl
 more_stops l close c _ d gs _ w a no_mark_end s (expands _ (end_quals close_0 c_0 d_0 q0) (takes t kk z)) = s
 more_stops l close c _ d gs _ w a (no_mark j rest b) s (expands _ (end_quals close_0 c_0 d_0 q0) (takes t kk z)) = b (ap (λ v. v.kind) (sym s) ∙ kk)
 
-more_refused : (close : TokenKind) (c : Context) (rest : List Word) → NoMark k.Comma rest → NoMark close rest → IsRefused {X = List Qual × ℕ} closed (more_quals_in close c) rest rest Syntax
+more_refused : {most : Limits} (close : TokenKind) (c : Context) (rest : List Word) → NoMark k.Comma rest → NoMark close rest → IsRefused most {X = List Qual × ℕ} closed (more_quals_in close c) rest rest Syntax
 more_refused close c rest a b = record {
   front = [];
   whole = refl;
@@ -97,7 +98,7 @@ more_lengthens l close c _ d gs j w n h (expands _ (end_quals close_0 c_0 d_0 q0
 behind_qual : (close : TokenKind) (c : Context) → Ends close → Behind {X = Qual × ℕ} {Y = List Qual × ℕ} qual_longer closed (λ p. more_quals_in close c)
 behind_qual close c n = record { behind = λ l p r gs f t w h d. more_lengthens l close c r.0 r.1 gs t w n h d }
 
-more_spelled : (close : TokenKind) (c : Context) → Spelled {X = Qual × ℕ} {Y = List Qual × ℕ} (λ p. more_quals_in close c) (mark_word close ∷ [])
+more_spelled : {most : Limits} (close : TokenKind) (c : Context) → Spelled most {X = Qual × ℕ} {Y = List Qual × ℕ} (λ p. more_quals_in close c) (mark_word close ∷ [])
 more_spelled close c = record { tree = λ p. ([], 0); spelled = λ l v p gs w d. expands _ (end_quals close c 0 refl) (takes (mark_word close) refl d) }
 
 -- ---- Exits
@@ -106,26 +107,26 @@ pub ends : (close : TokenKind) → Closes close → qual_longer close ≡ false 
 ends close n e = record { longer = e; comma = n.comma }
 
 -- what was read so far
-abbrev pub QualsRead : TokenKind → Context → List Word → ℕ → ℕ → List Qual → ℕ → Type 0
-QualsRead close c ws at next items h = Passes closed (quals_in close c) (drop at ws) (qual_and_more close c) (drop next ws) (λ p. (items ++ (p.0.0 ∷ p.1.0), max h (max p.0.1 p.1.1)))
+abbrev pub QualsRead : TokenKind → Context → Readable → ℕ → ℕ → List Qual → ℕ → Type 0
+QualsRead close c ws at next items h = Passes ws.limits closed (quals_in close c) (drop at ws.words) (qual_and_more close c) (drop next ws.words) (λ p. (items ++ (p.0.0 ∷ p.1.0), max h (max p.0.1 p.1.1)))
 
-pub quals_begin : (close : TokenKind) (c : Context) (ws : List Word) (at : ℕ) (items : List Qual) → items ≡ [] → QualsRead close c ws at at items 0
-quals_begin close c ws at items e = remade (λ p. same_pair (ap (λ v. v ++ (p.0.0 ∷ p.1.0)) (sym e)) (omega arith)) (on_quals close c (drop at ws))
+pub quals_begin : (close : TokenKind) (c : Context) (ws : Readable) (at : ℕ) (items : List Qual) → items ≡ [] → QualsRead close c ws at at items 0
+quals_begin close c ws at items e = remade (λ p. same_pair (ap (λ v. v ++ (p.0.0 ∷ p.1.0)) (sym e)) (omega arith)) (on_quals close c (drop at ws.words))
 
-pub quals_err : (close : TokenKind) (c : Context) (ws : List Word) (at next : ℕ) (items : List Qual) (h : ℕ) (f : Fault) → Ends close → QualsRead close c ws at next items h → Gives qual_longer (qual_in c) ws next (Err f) → Gives closed (quals_in close c) ws at (Err f)
+pub quals_err : (close : TokenKind) (c : Context) (ws : Readable) (at next : ℕ) (items : List Qual) (h : ℕ) (f : Fault) → Ends close → QualsRead close c ws at next items h → Gives qual_longer (qual_in c) ws next (Err f) → Gives closed (quals_in close c) ws at (Err f)
 quals_err close c ws at next items h f n r g = fault_after ws at next f (same_kinds closed) r (fault_first (qual_in c) ws next f (behind_qual close c n) (more_spelled close c) g)
 
-then_more : (close : TokenKind) (c : Context) (ws : List Word) (at next after : ℕ) (items : List Qual) (h : ℕ) (y : Qual × ℕ) → Ends close → QualsRead close c ws at next items h → Gives qual_longer (qual_in c) ws next (Ok (y, after)) → Passes {X = List Qual × ℕ} {Y = List Qual × ℕ} closed (quals_in close c) (drop at ws) (more_quals_in close c) (drop after ws) (λ r. (items ++ (y.0 ∷ r.0), max h (max y.1 r.1)))
+then_more : (close : TokenKind) (c : Context) (ws : Readable) (at next after : ℕ) (items : List Qual) (h : ℕ) (y : Qual × ℕ) → Ends close → QualsRead close c ws at next items h → Gives qual_longer (qual_in c) ws next (Ok (y, after)) → Passes ws.limits {X = List Qual × ℕ} {Y = List Qual × ℕ} closed (quals_in close c) (drop at ws.words) (more_quals_in close c) (drop after ws.words) (λ r. (items ++ (y.0 ∷ r.0), max h (max y.1 r.1)))
 then_more close c ws at next after items h y n r g = and_then (same_kinds closed) r (first_of_two (behind_qual close c n) g)
 
-pub quals_end : (close : TokenKind) (c : Context) (ws : List Word) (at next after : ℕ) (items all : List Qual) (h g : ℕ) (y : Qual × ℕ) → Ends close → QualsRead close c ws at next items h → Gives qual_longer (qual_in c) ws next (Ok (y, after)) → IsAt ws after close → all ≡ items ++ (y.0 ∷ []) → g ≡ max h y.1 → Gives closed (quals_in close c) ws at (Ok ((all, g), after + 1))
-quals_end close c ws at next after items all h g y n r v s e i = remade (λ u. same_pair (sym e) (omega (arith, i))) (and_then (same_kinds closed) (then_more close c ws at next after items h y n r v) (at_token s.is (on_end close c s.word (drop (after + 1) ws) n s.kind_is)))
+pub quals_end : (close : TokenKind) (c : Context) (ws : Readable) (at next after : ℕ) (items all : List Qual) (h g : ℕ) (y : Qual × ℕ) → Ends close → QualsRead close c ws at next items h → Gives qual_longer (qual_in c) ws next (Ok (y, after)) → IsAt ws after close → all ≡ items ++ (y.0 ∷ []) → g ≡ max h y.1 → Gives closed (quals_in close c) ws at (Ok ((all, g), after + 1))
+quals_end close c ws at next after items all h g y n r v s e i = remade (λ u. same_pair (sym e) (omega (arith, i))) (and_then (same_kinds closed) (then_more close c ws at next after items h y n r v) (at_token s.is (on_end close c s.word (drop (after + 1) ws.words) n s.kind_is)))
 
-pub quals_more : (close : TokenKind) (c : Context) (ws : List Word) (at next after : ℕ) (items all : List Qual) (h g : ℕ) (y : Qual × ℕ) → Ends close → QualsRead close c ws at next items h → Gives qual_longer (qual_in c) ws next (Ok (y, after)) → IsAt ws after k.Comma → all ≡ items ++ (y.0 ∷ []) → g ≡ max h y.1 → QualsRead close c ws at (after + 1) all g
-quals_more close c ws at next after items all h g y n r v s e i = remade (λ p. same_pair (sym (append_assoc items (y.0 ∷ []) (p.0.0 ∷ p.1.0)) ∙ ap (λ u. u ++ (p.0.0 ∷ p.1.0)) (sym e)) (omega (arith, i))) (and_then (same_kinds closed) (then_more close c ws at next after items h y n r v) (at_token s.is (on_comma close c s.word (drop (after + 1) ws) n s.kind_is)))
+pub quals_more : (close : TokenKind) (c : Context) (ws : Readable) (at next after : ℕ) (items all : List Qual) (h g : ℕ) (y : Qual × ℕ) → Ends close → QualsRead close c ws at next items h → Gives qual_longer (qual_in c) ws next (Ok (y, after)) → IsAt ws after k.Comma → all ≡ items ++ (y.0 ∷ []) → g ≡ max h y.1 → QualsRead close c ws at (after + 1) all g
+quals_more close c ws at next after items all h g y n r v s e i = remade (λ p. same_pair (sym (append_assoc items (y.0 ∷ []) (p.0.0 ∷ p.1.0)) ∙ ap (λ u. u ++ (p.0.0 ∷ p.1.0)) (sym e)) (omega (arith, i))) (and_then (same_kinds closed) (then_more close c ws at next after items h y n r v) (at_token s.is (on_comma close c s.word (drop (after + 1) ws.words) n s.kind_is)))
 
-pub quals_other : (close : TokenKind) (c : Context) (ws : List Word) (at next after : ℕ) (items : List Qual) (h : ℕ) (y : Qual × ℕ) → Ends close → QualsRead close c ws at next items h → Gives qual_longer (qual_in c) ws next (Ok (y, after)) → NoMark k.Comma (drop after ws) → NoMark close (drop after ws) → IsRefused {X = List Qual × ℕ} closed (quals_in close c) (drop at ws) (drop after ws) Syntax
-quals_other close c ws at next after items h y n r v a b = refused_after (same_kinds closed) (then_more close c ws at next after items h y n r v) (more_refused close c (drop after ws) a b)
+pub quals_other : (close : TokenKind) (c : Context) (ws : Readable) (at next after : ℕ) (items : List Qual) (h : ℕ) (y : Qual × ℕ) → Ends close → QualsRead close c ws at next items h → Gives qual_longer (qual_in c) ws next (Ok (y, after)) → NoMark k.Comma (drop after ws.words) → NoMark close (drop after ws.words) → IsRefused ws.limits {X = List Qual × ℕ} closed (quals_in close c) (drop at ws.words) (drop after ws.words) Syntax
+quals_other close c ws at next after items h y n r v a b = refused_after (same_kinds closed) (then_more close c ws at next after items h y n r v) (more_refused close c (drop after ws.words) a b)
 
 -- ---- A `<<` that opens a bracket too many
 
@@ -171,12 +172,12 @@ qual_full l c i d gs j w h b (expands _ (generator c_0 ql d_0 at pt dp az z dz q
 qual_full l c i d gs j w h b (expands _ (bits_generator c_0 ql d_0 at sgs ds az z dz q0 q1 q2) m) = omega arith
 qual_full l c i d gs j w h b (expands _ (filter c_0 ql d_0 at y q0) m) = level_full l 0 c at y d gs j w h b m
 
-stops_full : (l : Limits) (c : Context) (i : Qual) (d : ℕ) (gs : List Goal) (j : Word) (rest w : List Word) → j.kind ≡ k.LeftBits → 64 ≤ c.open_ → IsStrict l → SameHead w (j ∷ rest) → Spells l (Of (AQual c i d) ∷ gs) w → ⊥
+stops_full : {most : Limits} (l : Limits) (c : Context) (i : Qual) (d : ℕ) (gs : List Goal) (j : Word) (rest w : List Word) → j.kind ≡ k.LeftBits → most.brackets ≤ c.open_ → IsStrict most l → SameHead w (j ∷ rest) → Spells l (Of (AQual c i d) ∷ gs) w → ⊥
 stops_full l c i d gs j rest [] h b s m z = m
 stops_full l c i d gs j rest (t ∷ w) h b s m z = qual_full l c i d gs t w (ap (λ v. v.kind) m ∙ h) (omega (arith, s.brackets)) z
 
-full : (c : Context) (j : Word) (rest : List Word) → j.kind ≡ k.LeftBits → 64 ≤ c.open_ → IsRefused {X = Qual × ℕ} qual_longer (qual_in c) (j ∷ rest) (j ∷ rest) TooDeep
-full c j rest h b = record {
+full : {most : Limits} (c : Context) (j : Word) (rest : List Word) → j.kind ≡ k.LeftBits → most.brackets ≤ c.open_ → IsRefused most {X = Qual × ℕ} qual_longer (qual_in c) (j ∷ rest) (j ∷ rest) TooDeep
+full {most = most} c j rest h b = record {
   front = [];
   whole = refl;
   tree = (q.Filter some_expr.at some_expr.tree, some_expr.height);
@@ -184,17 +185,17 @@ full c j rest h b = record {
   goes_on = λ l i gs w d. expands _ (filter c _ _ _ _ refl) (level_completed 0 l c gs w d);
   stops = λ l s x gs w f m d. stops_full l c x.0 x.1 gs j rest w h b s m d;
   excused = record {
-    limits = deeper 0 (c.open_ + 1);
-    wide = deeper_wide 0 (c.open_ + 1);
+    limits = deeper most 0 (c.open_ + 1);
+    wide = deeper_wide most 0 (c.open_ + 1);
     allows = (refl, refl);
     first = j;
     behind = rest;
     begins = refl;
     tree = (q.Bits j.at [] some_expr.tree, max 1 some_expr.height);
     more = mark_word k.RightBits ∷ (mark_word k.DoubleLeftArrow ∷ (some_word ∷ []));
-    goes_on = λ gs w d. expands _ (bits_generator c _ _ j.at [] 1 some_expr.at some_expr.tree some_expr.height (omega arith) refl refl) (begins j h refl (expands _ (no_pattern_bits (in_mode InSize c) 1 refl) (takes (mark_word k.RightBits) refl (takes (mark_word k.DoubleLeftArrow) refl (level_completed 0 (deeper 0 (c.open_ + 1)) c gs w d)))));
+    goes_on = λ gs w d. expands _ (bits_generator c _ _ j.at [] 1 some_expr.at some_expr.tree some_expr.height (omega arith) refl refl) (begins j h refl (expands _ (no_pattern_bits (in_mode InSize c) 1 refl) (takes (mark_word k.RightBits) refl (takes (mark_word k.DoubleLeftArrow) refl (level_completed 0 (deeper most 0 (c.open_ + 1)) c gs w d)))));
   };
 }
 
-pub qual_full_at : (c : Context) (ws : List Word) (at : ℕ) → IsAt ws at k.LeftBits → 64 ≤ c.open_ → IsRefused {X = Qual × ℕ} qual_longer (qual_in c) (drop at ws) (drop at ws) TooDeep
-qual_full_at c ws at s b = refused_at s.is (full c s.word (drop (at + 1) ws) s.kind_is b)
+pub qual_full_at : (c : Context) (ws : Readable) (at : ℕ) → IsAt ws at k.LeftBits → ws.limits.brackets ≤ c.open_ → IsRefused ws.limits {X = Qual × ℕ} qual_longer (qual_in c) (drop at ws.words) (drop at ws.words) TooDeep
+qual_full_at c ws at s b = refused_at s.is (full c s.word (drop (at + 1) ws.words) s.kind_is b)

@@ -67,7 +67,7 @@ simple_atom_forth l c at e d gs j w h (expands _ (simple c_0 at_0 e_0 d_0) (expa
 simple_atom_forth l c at e d gs j w h (expands _ (simple c_0 at_0 e_0 d_0) (expands _ (bits c_1 at_1 e_1 d_1 q1_0 q1_1) (begins t kk ka z))) = cc
 simple_atom_forth l c at e d gs j w h (expands _ (simple c_0 at_0 e_0 d_0) (expands _ (paren c_1 at_1 e_1 d_1 ay_1 q1_0) (begins t kk ka z))) = cc
 
-pub on_simple_atom : (c : Context) (j : Word) (rest : List Word) → j.kind ≡ k.Atom → Passes {X = Placed Expr} closed (simple_in c) (j ∷ rest) nothing rest (λ u. record { at = j.at; tree = x.Atom j.at j.number; height = 1 })
+pub on_simple_atom : {most : Limits} (c : Context) (j : Word) (rest : List Word) → j.kind ≡ k.Atom → Passes most {X = Placed Expr} closed (simple_in c) (j ∷ rest) nothing rest (λ u. record { at = j.at; tree = x.Atom j.at j.number; height = 1 })
 on_simple_atom c j rest h = record {
   front = j ∷ [];
   whole = refl;
@@ -80,7 +80,7 @@ simple_forth l c at e d gs rest w n s (expands _ (simple c_0 at_0 e_0 d_0) z) = 
 simple_forth l c at e d gs _ w no_mark_end s (expands _ (simple_atom c_0 at_0 e_0 d_0 t_0 q0 q1 q2 q3) (this z)) = absurd s
 simple_forth l c at e d gs _ w (no_mark j rest n) s (expands _ (simple_atom c_0 at_0 e_0 d_0 t_0 q0 q1 q2 q3) (this z)) = absurd (n (ap (λ v. v.kind) (sym s) ∙ q0))
 
-pub on_simple : (c : Context) (rest : List Word) → NoMark k.Atom rest → Passes {X = Placed Expr} {Y = Placed Expr} closed (simple_in c) rest (common_in c) rest (λ p. p)
+pub on_simple : {most : Limits} (c : Context) (rest : List Word) → NoMark k.Atom rest → Passes most {X = Placed Expr} {Y = Placed Expr} closed (simple_in c) rest (common_in c) rest (λ p. p)
 on_simple c rest n = record {
   front = [];
   whole = refl;
@@ -103,7 +103,7 @@ unsized_forth l c at y dy sg d gs rest w n s (expands _ (unsized c_0 at_0 y_0 dy
 unsized_forth l c at y dy sg d gs _ w no_mark_end s (expands _ (sized c_0 at_0 y_0 dy_0 sg_0 d_0 az z_0 dz q0) (takes t kk z)) = absurd s
 unsized_forth l c at y dy sg d gs _ w (no_mark j rest n) s (expands _ (sized c_0 at_0 y_0 dy_0 sg_0 d_0 az z_0 dz q0) (takes t kk z)) = absurd (n (ap (λ v. v.kind) (sym s) ∙ kk))
 
-pub on_unsized : (c : Context) (y : Placed Expr) (rest : List Word) → NoMark k.Colon rest → Passes {X = Segment × ℕ} {Y = Segment} segment_longer (segment_rest_in c y) rest (segment_type_in y.at y.tree None) rest (λ sg. (sg, y.height))
+pub on_unsized : {most : Limits} (c : Context) (y : Placed Expr) (rest : List Word) → NoMark k.Colon rest → Passes most {X = Segment × ℕ} {Y = Segment} segment_longer (segment_rest_in c y) rest (segment_type_in y.at y.tree None) rest (λ sg. (sg, y.height))
 on_unsized c y rest n = record {
   front = [];
   whole = refl;
@@ -117,7 +117,7 @@ sized_forth l c at y dy sg d gs j w h f (expands _ (sized c_0 at_0 y_0 dy_0 sg_0
 sized_forth l c at y dy sg d gs j w h f (expands _ (unsized c_0 at_0 y_0 dy_0 sg_0 d_0 q0) (expands _ (typed at_1 y_1 size_1 sg_1 sp_1 sps_1 q1) (takes t kk z))) = cc
 sized_forth l c at y dy sg d gs j w h f (expands _ (unsized c_0 at_0 y_0 dy_0 sg_0 d_0 q0) (expands _ (untyped at_1 y_1 size_1 sg_1 q1) z)) = absurd (f j w (ap segment_longer h) z)
 
-pub on_sized : (c : Context) (y : Placed Expr) (j : Word) (rest : List Word) → j.kind ≡ k.Colon → Passes {X = Segment × ℕ} {Y = Placed Expr × Segment} segment_longer (segment_rest_in c y) (j ∷ rest) (λ p. simple_in c p.0 ++ segment_type_in y.at y.tree (Some p.0.tree) p.1) rest (λ p. (p.1, max y.height p.0.height))
+pub on_sized : {most : Limits} (c : Context) (y : Placed Expr) (j : Word) (rest : List Word) → j.kind ≡ k.Colon → Passes most {X = Segment × ℕ} {Y = Placed Expr × Segment} segment_longer (segment_rest_in c y) (j ∷ rest) (λ p. simple_in c p.0 ++ segment_type_in y.at y.tree (Some p.0.tree) p.1) rest (λ p. (p.1, max y.height p.0.height))
 on_sized c y j rest h = record {
   front = j ∷ [];
   whole = refl;
@@ -125,10 +125,10 @@ on_sized c y j rest h = record {
   forth = λ l r gs w f s d. let m = sized_forth l c y.at y.tree y.height r.0 r.1 gs j w h f d in ((m.0, r.0), same_pair refl m.1, m.2);
 }
 
-pub type_spelled : (y : Placed Expr) → Spelled {X = Placed Expr} {Y = Segment} (λ z. segment_type_in y.at y.tree (Some z.tree)) []
+pub type_spelled : {most : Limits} (y : Placed Expr) → Spelled most {X = Placed Expr} {Y = Segment} (λ z. segment_type_in y.at y.tree (Some z.tree)) []
 type_spelled y = record { tree = λ z. record { at = y.at; value = y.tree; size = Some z.tree; specs = [] }; spelled = λ l v z gs w d. expands _ (untyped _ _ _ _ refl) d }
 
-pub rest_spelled : (c : Context) → Spelled {X = Placed Expr} {Y = Segment × ℕ} (segment_rest_in c) []
+pub rest_spelled : {most : Limits} (c : Context) → Spelled most {X = Placed Expr} {Y = Segment × ℕ} (segment_rest_in c) []
 rest_spelled c = record { tree = λ y. (record { at = y.at; value = y.tree; size = None; specs = [] }, y.height); spelled = λ l v y gs w d. expands _ (unsized c _ _ _ _ _ refl) (expands _ (untyped _ _ _ _ refl) d) }
 
 -- ---- A segment with an operator before its value
@@ -145,8 +145,8 @@ prefixed_forth l c sg d gs j w op h (expands _ (prefixed c_0 sg_0 d_0 t op_0 ay 
     let P : Prefix → Type 0 = λ v. Spells l (Of (Simple (under c) ay y dy) ∷ Of (SegmentRest c j.at (x.Unary j.at v (y ∷ [])) (dy + 1) sg d) ∷ gs) w in
     (q1, record { at = ay; tree = y; height = dy }, subst P (same_prefix q0 h) z)
 
-pub on_prefixed : (c : Context) (j : Word) (rest : List Word) (op : Prefix) → prefix_of j.kind ≡ Some op → c.deep + 1 ≤ 256 →
-    Passes {X = Segment × ℕ} {Y = Placed Expr × (Segment × ℕ)} segment_longer (prefixed_in c) (j ∷ rest) (λ p. simple_in (under c) p.0 ++ segment_rest_in c (signed j.at op p.0) p.1) rest (λ p. p.1)
+pub on_prefixed : {most : Limits} (c : Context) (j : Word) (rest : List Word) (op : Prefix) → prefix_of j.kind ≡ Some op → c.deep + 1 ≤ most.trees →
+    Passes most {X = Segment × ℕ} {Y = Placed Expr × (Segment × ℕ)} segment_longer (prefixed_in c) (j ∷ rest) (λ p. simple_in (under c) p.0 ++ segment_rest_in c (signed j.at op p.0) p.1) rest (λ p. p.1)
 on_prefixed c j rest op h b = record {
   front = j ∷ [];
   whole = refl;
@@ -154,7 +154,7 @@ on_prefixed c j rest op h b = record {
   forth = λ l r gs w f s d. let m = prefixed_forth l c r.0 r.1 gs j w op h d in ((m.1, r), refl, m.2);
 }
 
-pub signed_spelled : (c : Context) (at : Span) (op : Prefix) → Spelled {X = Placed Expr} {Y = Segment × ℕ} (λ y. segment_rest_in c (signed at op y)) []
+pub signed_spelled : {most : Limits} (c : Context) (at : Span) (op : Prefix) → Spelled most {X = Placed Expr} {Y = Segment × ℕ} (λ y. segment_rest_in c (signed at op y)) []
 signed_spelled c at op = record { tree = λ y. (record { at = at; value = x.Unary at op (y.tree ∷ []); size = None; specs = [] }, y.height + 1); spelled = λ l v y gs w d. expands _ (unsized c _ _ _ _ _ refl) (expands _ (untyped _ _ _ _ refl) d) }
 
 -- ---- A segment
@@ -165,7 +165,7 @@ segment_value_forth l c sg d gs rest w n s (expands _ (segment c_0 sg_0 d_0 ay y
 segment_value_forth l c sg d gs _ w no_prefix_end s (expands _ (segment_prefixed c_0 sg_0 d_0) (expands _ (prefixed c_1 sg_1 d_1 t op ay y dy q0 q1) (this z))) = absurd s
 segment_value_forth l c sg d gs _ w (no_prefix_word j rest n) s (expands _ (segment_prefixed c_0 sg_0 d_0) (expands _ (prefixed c_1 sg_1 d_1 t op ay y dy q0 q1) (this z))) = absurd (no_prefix n (ap (λ v. prefix_of v.kind) (sym s) ∙ q0))
 
-pub on_segment_value : (c : Context) (rest : List Word) → NoPrefix rest → Passes {X = Segment × ℕ} {Y = Placed Expr × (Segment × ℕ)} segment_longer (segment_in c) rest (λ p. simple_in c p.0 ++ segment_rest_in c p.0 p.1) rest (λ p. p.1)
+pub on_segment_value : {most : Limits} (c : Context) (rest : List Word) → NoPrefix rest → Passes most {X = Segment × ℕ} {Y = Placed Expr × (Segment × ℕ)} segment_longer (segment_in c) rest (λ p. simple_in c p.0 ++ segment_rest_in c p.0 p.1) rest (λ p. p.1)
 on_segment_value c rest n = record {
   front = [];
   whole = refl;
@@ -181,7 +181,7 @@ segment_prefixed_by : (l : Limits) (c : Context) (sg : Segment) (d : ℕ) (gs : 
 segment_prefixed_by l c sg d gs j rest [] op h s z = absurd s
 segment_prefixed_by l c sg d gs j rest (t ∷ w) op h s z = segment_prefixed_forth l c sg d gs t w op (ap (λ v. prefix_of v.kind) s ∙ h) z
 
-pub on_segment_prefixed : (c : Context) (j : Word) (rest : List Word) (op : Prefix) → prefix_of j.kind ≡ Some op → Passes {X = Segment × ℕ} {Y = Segment × ℕ} segment_longer (segment_in c) (j ∷ rest) (prefixed_in c) (j ∷ rest) (λ p. p)
+pub on_segment_prefixed : {most : Limits} (c : Context) (j : Word) (rest : List Word) (op : Prefix) → prefix_of j.kind ≡ Some op → Passes most {X = Segment × ℕ} {Y = Segment × ℕ} segment_longer (segment_in c) (j ∷ rest) (prefixed_in c) (j ∷ rest) (λ p. p)
 on_segment_prefixed c j rest op h = record {
   front = [];
   whole = refl;
@@ -192,31 +192,31 @@ on_segment_prefixed c j rest op h = record {
 abbrev some_segment : Segment
 some_segment = record { at = some_place; value = x.Var some_place []; size = None; specs = [] }
 
-stops_signed : (c : Context) (j : Word) (rest : List Word) (op : Prefix) → prefix_of j.kind ≡ Some op → 256 < c.deep + 1 → (l : Limits) → l.trees ≡ 256 → (r : Segment × ℕ) (gs : List Goal) (w : List Word) → SameHead w (j ∷ rest) → Spells l (segment_in c r ++ gs) w → ⊥
-stops_signed c j rest op h b l i r gs [] s d = s
-stops_signed c j rest op h b l i r gs (t ∷ w) s d =
+stops_signed : (most : Limits) (c : Context) (j : Word) (rest : List Word) (op : Prefix) → prefix_of j.kind ≡ Some op → most.trees < c.deep + 1 → (l : Limits) → l.trees ≡ most.trees → (r : Segment × ℕ) (gs : List Goal) (w : List Word) → SameHead w (j ∷ rest) → Spells l (segment_in c r ++ gs) w → ⊥
+stops_signed most c j rest op h b l i r gs [] s d = s
+stops_signed most c j rest op h b l i r gs (t ∷ w) s d =
     let o : prefix_of t.kind ≡ Some op = ap (λ v. prefix_of v.kind) s ∙ h in
     let m = prefixed_forth l c r.0 r.1 gs t w op o (segment_prefixed_forth l c r.0 r.1 gs t w op o d) in
     let a : c.deep + 1 ≤ l.trees = m.0 in omega arith
 
-pub signed_too_deep : (c : Context) (j : Word) (rest : List Word) (op : Prefix) → prefix_of j.kind ≡ Some op → 256 < c.deep + 1 → IsRefused {X = Segment × ℕ} segment_longer (segment_in c) (j ∷ rest) (j ∷ rest) TooDeep
-signed_too_deep c j rest op h b = record {
+pub signed_too_deep : {most : Limits} (c : Context) (j : Word) (rest : List Word) (op : Prefix) → prefix_of j.kind ≡ Some op → most.trees < c.deep + 1 → IsRefused most {X = Segment × ℕ} segment_longer (segment_in c) (j ∷ rest) (j ∷ rest) TooDeep
+signed_too_deep {most = most} c j rest op h b = record {
   front = [];
   whole = refl;
   tree = (some_segment, 1);
   more = some_word ∷ [];
   goes_on = λ l v gs w d. expands _ (segment c some_segment 1 some_place (x.Var some_place []) 1) (value_spelled l c (Of (SegmentRest c some_place (x.Var some_place []) 1 some_segment 1) ∷ gs) w (expands _ (unsized c _ _ _ _ _ refl) (expands _ (untyped _ _ _ _ refl) d)));
-  stops = λ l i r gs w f s d. stops_signed c j rest op h b l i.trees r gs w s d;
+  stops = λ l i r gs w f s d. stops_signed most c j rest op h b l i.trees r gs w s d;
   excused = record {
-    limits = deeper (c.deep + 1) 0;
-    wide = deeper_wide (c.deep + 1) 0;
+    limits = deeper most (c.deep + 1) 0;
+    wide = deeper_wide most (c.deep + 1) 0;
     allows = (refl, refl);
     first = j;
     behind = rest;
     begins = refl;
     tree = (record { at = j.at; value = x.Unary j.at op (x.Var some_place [] ∷ []); size = None; specs = [] }, 2);
     more = some_word ∷ [];
-    goes_on = λ gs w d. let room : c.deep + 1 ≤ 256 + (c.deep + 1) = omega arith in
-        expands _ (segment_prefixed c _ _) (expands _ (prefixed c _ _ j op some_place (x.Var some_place []) 1 h room) (this (value_spelled (deeper (c.deep + 1) 0) (under c) _ w (expands _ (unsized c _ _ _ _ _ refl) (expands _ (untyped _ _ _ _ refl) d)))));
+    goes_on = λ gs w d. let room : c.deep + 1 ≤ most.trees + (c.deep + 1) = omega arith in
+        expands _ (segment_prefixed c _ _) (expands _ (prefixed c _ _ j op some_place (x.Var some_place []) 1 h room) (this (value_spelled (deeper most (c.deep + 1) 0) (under c) _ w (expands _ (unsized c _ _ _ _ _ refl) (expands _ (untyped _ _ _ _ refl) d)))));
   };
 }

@@ -16,6 +16,7 @@ use Rattle.erl_syntax.specs.declared.clause.Alt.{Alt}
 use Rattle.pattern_read.specs.declared.placed.Placed.{Placed}
 use Rattle.pattern_read.specs.Wanted.{NoneFollows, level_in}
 use Rattle.body_read.specs.WantedExprs.{mode_of}
+use Rattle.pattern_read.specs.Source.{Readable}
 
 -- the words with which blocks begin
 abbrev pub begins_block : TokenKind → Bool
@@ -65,9 +66,9 @@ abbrev pub MayStand : Setting → Op → Type 0
 MayStand s op = mode_of s ≡ InBody ⊎ op ≢ o.Send
 
 -- an operator of the level stands there
-pub record OperatorIn (s : Setting) (all : List Word) (at n : ℕ) (op : Op) : Type 0 where
+pub record OperatorIn (s : Setting) (ws : Readable) (at n : ℕ) (op : Op) : Type 0 where
   pub word : Word
-  pub is : drop at all ≡ word ∷ drop (at + 1) all
+  pub is : drop at ws.words ≡ word ∷ drop (at + 1) ws.words
   pub operator : operator_of word.kind ≡ Some op
   pub level : level_of op ≡ n
   pub stands : MayStand s op

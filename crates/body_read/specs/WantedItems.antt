@@ -17,6 +17,7 @@ use Rattle.pattern_read.specs.declared.fault.Cause.TheVariants.{Syntax, TooDeep,
 use Rattle.pattern_read.specs.Reading.{Passes, Gives, closed, nothing}
 use Rattle.pattern_read.specs.Wanted.{NoMark, IsAt}
 use Rattle.body_read.specs.WantedExprs.{item_longer, item_in}
+use Rattle.pattern_read.specs.Source.{Readable}
 
 -- a pattern of an item, with its `=`
 abbrev pub matched_in : Context → Placed Pattern → List Goal
@@ -31,9 +32,9 @@ abbrev pub IsFarther : ℕ → Cause → ℕ → Cause → ℕ → Cause → Typ
 IsFarther i c j d n why = ((j ≤ i) × (n ≡ i) × Joins c d why) ⊎ ((i ≤ j) × (n ≡ j) × Joins d c why)
 
 -- the expression of an item, which has no pattern before it
-abbrev pub GivesValue : Context → List Word → ℕ → Result (Placed Expr × ℕ) Fault → Type 0
-GivesValue c words at (Ok r) = Passes item_longer (item_in c) (drop at words) nothing (drop r.1 words) (λ u. (record { patterns = []; value = r.0.tree }, r.0.height))
-GivesValue c words at (Err fault) = Gives item_longer (item_in c) words at (Err fault)
+abbrev pub GivesValue : Context → Readable → ℕ → Result (Placed Expr × ℕ) Fault → Type 0
+GivesValue c ws at (Ok r) = Passes ws.limits item_longer (item_in c) (drop at ws.words) nothing (drop r.1 ws.words) (λ u. (record { patterns = []; value = r.0.tree }, r.0.height))
+GivesValue c ws at (Err fault) = Gives item_longer (item_in c) ws at (Err fault)
 
 -- of two faults the refusal further right, or memory that is out
 abbrev pub Joined : Fault → Fault → Fault → Type 0
@@ -69,16 +70,16 @@ abbrev pub segments_in : Context → List Segment × ℕ → List Goal
 segments_in c r = Of (PatternBits (in_mode InSize c) r.0 r.1) ∷ Mark k.DoubleLeftArrow ∷ []
 
 -- `<<` stands there, at that place of the text
-pub record OpensBits (all : List Word) (at : ℕ) (place : Span) : Type 0 where
+pub record OpensBits (ws : Readable) (at : ℕ) (place : Span) : Type 0 where
   pub word : Word
-  pub is : drop at all ≡ word ∷ drop (at + 1) all
+  pub is : drop at ws.words ≡ word ∷ drop (at + 1) ws.words
   pub kind : word.kind ≡ k.LeftBits
   pub place_is : word.at ≡ place
 
 -- what was tried for a generator of bits: nothing where no `<<` stands
-abbrev pub BitsTried : Context → List Word → ℕ → Option Fault → Type 0
-BitsTried c words at None = NoMark k.LeftBits (drop at words)
-BitsTried c words at (Some fault) = (c.open_ < 64) × IsAt words at k.LeftBits × Gives closed (segments_in c) words (at + 1) (Err fault)
+abbrev pub BitsTried : Context → Readable → ℕ → Option Fault → Type 0
+BitsTried c ws at None = NoMark k.LeftBits (drop at ws.words)
+BitsTried c ws at (Some fault) = (c.open_ < ws.limits.brackets) × IsAt ws at k.LeftBits × Gives closed (segments_in c) ws (at + 1) (Err fault)
 
 -- of the faults of two readings, or three, the refusal furthest right, or memory that is out
 abbrev pub Joined3 : Fault → Option Fault → Fault → Fault → Type 0
@@ -86,9 +87,9 @@ Joined3 first None third result = Joined first third result
 Joined3 first (Some second) third result = (later : Fault) × Joined second third later × Joined first later result
 
 -- a mark of a match or of a generator stands there
-pub record BarStands (all : List Word) (at : ℕ) : Type 0 where
+pub record BarStands (ws : Readable) (at : ℕ) : Type 0 where
   pub word : Word
-  pub is : drop at all ≡ word ∷ drop (at + 1) all
+  pub is : drop at ws.words ≡ word ∷ drop (at + 1) ws.words
   pub bar : IsTrue (bars word.kind)
 
 -- the expression that was read is the filter

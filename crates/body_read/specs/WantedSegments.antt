@@ -13,6 +13,7 @@ use Rattle.pattern_read.specs.declared.fault.Fault.{Fault}
 use Rattle.pattern_read.specs.declared.placed.Placed.{Placed}
 use Rattle.pattern_read.specs.Reading.{Passes, Gives, closed}
 use Rattle.pattern_read.specs.Wanted.{level_in, NoMark}
+use Rattle.pattern_read.specs.Source.{Readable}
 
 -- a segment with an operator before its value
 abbrev pub prefixed_in : Context → Segment × ℕ → List Goal
@@ -52,9 +53,9 @@ begins_simple _ = false
 -- ---- What stands at a place
 
 -- an operator before an expression stands there
-pub record PrefixAt (all : List Word) (at : ℕ) (span : Span) (op : Prefix) : Type 0 where
+pub record PrefixAt (ws : Readable) (at : ℕ) (span : Span) (op : Prefix) : Type 0 where
   pub word : Word
-  pub is : drop at all ≡ word ∷ drop (at + 1) all
+  pub is : drop at ws.words ≡ word ∷ drop (at + 1) ws.words
   pub prefix : prefix_of word.kind ≡ Some op
   pub place : word.at ≡ span
 
@@ -67,5 +68,5 @@ abbrev pub NoRow : Mode → List Word → Type 0
 NoRow mode rest = mode ≡ InBody → NoMark k.DoubleBar rest
 
 -- What was wanted at an earlier place, and of which `left` is left here, is answered.
-abbrev pub GivesBehind : {X Y : Type 0} → (X → List Goal) → (Y → List Goal) → (Y → X) → List Word → ℕ → Result (X × ℕ) Fault → Type 0
-GivesBehind wanted left make words at result = (start : ℕ) → Passes closed wanted (drop start words) left (drop at words) make → Gives closed wanted words start result
+abbrev pub GivesBehind : {X Y : Type 0} → (X → List Goal) → (Y → List Goal) → (Y → X) → Readable → ℕ → Result (X × ℕ) Fault → Type 0
+GivesBehind wanted left make ws at result = (start : ℕ) → Passes ws.limits closed wanted (drop start ws.words) left (drop at ws.words) make → Gives closed wanted ws start result

@@ -20,12 +20,12 @@ pub fn guarded(
     deep: usize,
     brackets: usize,
 ) -> Result<((Guard, usize), usize), Fault>
-    requires place { at ≤ length source.now }
-    requires tree { deep ≤ 256 }
-    requires bracket { brackets ≤ 64 }
+    requires place { at ≤ length source.now.words }
+    requires tree { deep ≤ source.now.limits.trees }
+    requires bracket { brackets ≤ source.now.limits.brackets }
     ensures reads { Gives closed (guarded_in (in_body deep brackets)) source.now at result }
-    ensures further { IfOk result (λ r. at < r.1 × (r.1 ≤ length source.now)) }
-    ensures bounded { IfOk result (λ r. deep + r.0.1 ≤ 257) }
+    ensures further { IfOk result (λ r. at < r.1 × (r.1 ≤ length source.now.words)) }
+    ensures bounded { IfOk result (λ r. deep + r.0.1 ≤ source.now.limits.trees + 1) }
 {
     if source.is(at, TokenKind::Arrow) {
         let alternatives = Listed::of(Vec::new(alloc));
@@ -50,12 +50,12 @@ pub fn tests(
     deep: usize,
     brackets: usize,
 ) -> Result<(Placed<Listed<Listed<Expr>>>, usize), Fault>
-    requires place { at ≤ length source.now }
-    requires tree { deep ≤ 256 }
-    requires bracket { brackets ≤ 64 }
+    requires place { at ≤ length source.now.words }
+    requires tree { deep ≤ source.now.limits.trees }
+    requires bracket { brackets ≤ source.now.limits.brackets }
     ensures reads { Gives closed (tests_in (in_guard deep brackets)) source.now at result }
-    ensures further { IfOk result (λ r. at < r.1 × (r.1 ≤ length source.now)) }
-    ensures bounded { IfOk result (λ r. (1 ≤ r.0.height) × (deep + r.0.height ≤ 257)) }
+    ensures further { IfOk result (λ r. at < r.1 × (r.1 ≤ length source.now.words)) }
+    ensures bounded { IfOk result (λ r. (1 ≤ r.0.height) × (deep + r.0.height ≤ source.now.limits.trees + 1)) }
 {
     let (first, after) = level(alloc, source, at, 0, Setting::Guard, deep, brackets)?;
     let place = first.at;
@@ -98,12 +98,12 @@ pub fn body(
     deep: usize,
     brackets: usize,
 ) -> Result<((Listed<Item>, usize), usize), Fault>
-    requires place { at ≤ length source.now }
-    requires tree { deep ≤ 256 }
-    requires bracket { brackets ≤ 64 }
+    requires place { at ≤ length source.now.words }
+    requires tree { deep ≤ source.now.limits.trees }
+    requires bracket { brackets ≤ source.now.limits.brackets }
     ensures reads { Gives body_longer (body_in (in_body deep brackets)) source.now at result }
-    ensures further { IfOk result (λ r. at < r.1 × (r.1 ≤ length source.now)) }
-    ensures bounded { IfOk result (λ r. (1 ≤ r.0.1) × (deep + r.0.1 ≤ 257)) }
+    ensures further { IfOk result (λ r. at < r.1 × (r.1 ≤ length source.now.words)) }
+    ensures bounded { IfOk result (λ r. (1 ≤ r.0.1) × (deep + r.0.1 ≤ source.now.limits.trees + 1)) }
 {
     let mut items = Vec::new(alloc);
     let mut height = 0;

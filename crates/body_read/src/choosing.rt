@@ -55,7 +55,7 @@ pub fn item_value(
     tried: Fault,
     read: Result<(Placed<Expr>, usize), Fault>,
 ) -> Result<(Placed<Expr>, usize), Fault>
-    requires { IfOk read (λ r. r.1 ≤ length source.now) }
+    requires { IfOk read (λ r. r.1 ≤ length source.now.words) }
     ensures reads { (c : Context) → Gives closed (matched_in c) source.now at (Err tried) → Gives (extends 0) (level_in 0 c) source.now at read → GivesValue c source.now at result }
     ensures kept { IfOk result (λ r. read ≡ Ok r) }
 {
@@ -92,9 +92,9 @@ fn is_bar(kind: TokenKind) -> bool
 
 /// Whether the mark of a match or of a generator stands there.
 fn bar_stands(source: &Source, at: usize) -> bool
-    requires { at ≤ length source.now }
+    requires { at ≤ length source.now.words }
     ensures yes { IsTrue result → BarStands source.now at }
-    ensures no { result ≡ false → NoneOf bars (drop at source.now) }
+    ensures no { result ≡ false → NoneOf bars (drop at source.now.words) }
 {
     let Some(numbered) = source.token(at) else {
         return false;
@@ -110,7 +110,7 @@ pub fn filter(
     bits: Option<Fault>,
     read: Result<(Placed<Expr>, usize), Fault>,
 ) -> Result<((Qual, usize), usize), Fault>
-    requires { IfOk read (λ r. r.1 ≤ length source.now) }
+    requires { IfOk read (λ r. r.1 ≤ length source.now.words) }
     ensures reads { (c : Context) → Gives closed (generated_in c) source.now at (Err pattern) → BitsTried c source.now at bits → Gives (extends 0) (level_in 0 c) source.now at read → Gives qual_longer (qual_in c) source.now at result }
     ensures kept { IfOk result (λ r. IsFilterOf read r) }
 {

@@ -66,8 +66,8 @@ fn begins(kind: TokenKind, setting: Setting) -> bool
 
 /// Why no expression stands where it would be too deep.
 pub fn cause_of_first(source: &Source, at: usize, setting: Setting) -> Cause
-    requires { at ≤ length source.now }
-    ensures { FirstIn setting (drop at source.now) result }
+    requires { at ≤ length source.now.words }
+    ensures { FirstIn setting (drop at source.now.words) result }
 {
     let Some(numbered) = source.token(at) else {
         return Cause::Syntax;
@@ -91,10 +91,12 @@ fn may_stand(op: Op, setting: Setting) -> bool
 
 /// The operator of that level at that place, where one may stand.
 fn operator_at(source: &Source, at: usize, wanted: usize, setting: Setting) -> Option<Op>
-    requires { at ≤ length source.now }
-    ensures operator { MatchOption result (NoneIn setting wanted (drop at source.now)) (λ op. OperatorIn setting source.now at wanted op) }
-    ensures within { OnSome result (at < length source.now) }
-    ensures short { length source.now < 2 ^ 64 }
+    requires { at ≤ length source.now.words }
+    ensures operator { MatchOption result (NoneIn setting wanted (drop at source.now.words)) (λ op. OperatorIn setting source.now at wanted op) }
+    ensures within { OnSome result (at < length source.now.words) }
+    ensures short { length source.now.words < 2 ^ 64 }
+    ensures trees { source.now.limits.trees ≤ 2 ^ 32 }
+    ensures brackets { source.now.limits.brackets ≤ 2 ^ 32 }
 {
     let Some(numbered) = source.token(at) else {
         return None;
@@ -116,8 +118,8 @@ fn binary(
     left: Placed<Expr>,
     right: Placed<Expr>,
 ) -> Result<Placed<Expr>, Fault>
-    requires left { left.height ≤ 256 }
-    requires right { right.height ≤ 256 }
+    requires left { left.height ≤ 2 ^ 32 }
+    requires right { right.height ≤ 2 ^ 32 }
     ensures joined { IfOk result (λ r. r ≡ joined left op right) }
     ensures memory { IfErr result (λ e. e ≡ Memory) }
 {
@@ -154,13 +156,13 @@ pub fn level(
     deep: usize,
     brackets: usize,
 ) -> Result<(Placed<Expr>, usize), Fault>
-    requires place { at ≤ length source.now }
-    requires tree { deep ≤ 256 }
-    requires bracket { brackets ≤ 64 }
+    requires place { at ≤ length source.now.words }
+    requires tree { deep ≤ source.now.limits.trees }
+    requires bracket { brackets ≤ source.now.limits.brackets }
     requires low { wanted ≤ 6 }
     ensures reads { Gives (extends wanted) (level_in wanted (in_setting setting deep brackets)) source.now at result }
-    ensures further { IfOk result (λ r. at < r.1 × (r.1 ≤ length source.now)) }
-    ensures bounded { IfOk result (λ r. (1 ≤ r.0.height) × (deep + r.0.height ≤ 257)) }
+    ensures further { IfOk result (λ r. at < r.1 × (r.1 ≤ length source.now.words)) }
+    ensures bounded { IfOk result (λ r. (1 ≤ r.0.height) × (deep + r.0.height ≤ source.now.limits.trees + 1)) }
 {
     if wanted == 6 {
         return operand(alloc, source, at, setting, deep, brackets);
@@ -192,20 +194,20 @@ pub fn tail(
     brackets: usize,
     left: Placed<Expr>,
 ) -> Result<((Expr, usize), usize), Fault>
-    requires place { at ≤ length source.now }
-    requires tree { deep ≤ 256 }
-    requires bracket { brackets ≤ 64 }
+    requires place { at ≤ length source.now.words }
+    requires tree { deep ≤ source.now.limits.trees }
+    requires bracket { brackets ≤ source.now.limits.brackets }
     requires low { wanted < 6 }
     requires tall { 1 ≤ left.height }
-    requires height { deep + left.height ≤ 257 }
+    requires height { deep + left.height ≤ source.now.limits.trees + 1 }
     ensures reads { Gives (extends wanted) (tail_in wanted (in_setting setting deep brackets) left) source.now at result }
-    ensures further { IfOk result (λ r. at ≤ r.1 × (r.1 ≤ length source.now)) }
-    ensures bounded { IfOk result (λ r. (1 ≤ r.0.1) × (deep + r.0.1 ≤ 257)) }
+    ensures further { IfOk result (λ r. at ≤ r.1 × (r.1 ≤ length source.now.words)) }
+    ensures bounded { IfOk result (λ r. (1 ≤ r.0.1) × (deep + r.0.1 ≤ source.now.limits.trees + 1)) }
 {
     let Some(op) = operator_at(source, at, wanted, setting) else {
         return Ok(((left.tree, left.height), at));
     };
-    if deep + left.height > 256 {
+    if deep + left.height > source.trees() {
         return Err(Fault::Refused(at, Cause::TooDeep));
     }
     let (right, next) = level(
@@ -235,19 +237,19 @@ pub fn exprs(
     brackets: usize,
     close: TokenKind,
 ) -> Result<((Listed<Expr>, usize), usize), Fault>
-    requires place { at ≤ length source.now }
-    requires tree { deep ≤ 257 }
-    requires bracket { brackets ≤ 64 }
+    requires place { at ≤ length source.now.words }
+    requires tree { deep ≤ source.now.limits.trees + 1 }
+    requires bracket { brackets ≤ source.now.limits.brackets }
     requires closes { Closes close }
     ensures reads { Gives closed (exprs_in close (in_setting setting deep brackets)) source.now at result }
-    ensures further { IfOk result (λ r. at < r.1 × (r.1 ≤ length source.now)) }
-    ensures bounded { IfOk result (λ r. deep + r.0.1 ≤ 257) }
+    ensures further { IfOk result (λ r. at < r.1 × (r.1 ≤ length source.now.words)) }
+    ensures bounded { IfOk result (λ r. deep + r.0.1 ≤ source.now.limits.trees + 1) }
 {
     let mut items = Vec::new(alloc);
     if source.is(at, close) {
         return Ok(((Listed::of(items), 0), at + 1));
     }
-    if deep > 256 {
+    if deep > source.trees() {
         return Err(Fault::Refused(at, cause_of_first(source, at, setting)));
     }
     let mut height = 0;

@@ -22,12 +22,12 @@ pub fn item(
     deep: usize,
     brackets: usize,
 ) -> Result<((Item, usize), usize), Fault>
-    requires place { at ≤ length source.now }
-    requires tree { deep ≤ 256 }
-    requires bracket { brackets ≤ 64 }
+    requires place { at ≤ length source.now.words }
+    requires tree { deep ≤ source.now.limits.trees }
+    requires bracket { brackets ≤ source.now.limits.brackets }
     ensures reads { Gives item_longer (item_in (in_body deep brackets)) source.now at result }
-    ensures further { IfOk result (λ r. at < r.1 × (r.1 ≤ length source.now)) }
-    ensures bounded { IfOk result (λ r. (1 ≤ r.0.1) × (deep + r.0.1 ≤ 257)) }
+    ensures further { IfOk result (λ r. at < r.1 × (r.1 ≤ length source.now.words)) }
+    ensures bounded { IfOk result (λ r. (1 ≤ r.0.1) × (deep + r.0.1 ≤ source.now.limits.trees + 1)) }
 {
     let mut patterns = Vec::new(alloc);
     let mut height = 0;
@@ -59,12 +59,12 @@ fn matched(
     deep: usize,
     brackets: usize,
 ) -> Result<(Placed<Pattern>, usize), Fault>
-    requires place { at ≤ length source.now }
-    requires tree { deep ≤ 256 }
-    requires bracket { brackets ≤ 64 }
+    requires place { at ≤ length source.now.words }
+    requires tree { deep ≤ source.now.limits.trees }
+    requires bracket { brackets ≤ source.now.limits.brackets }
     ensures reads { Gives closed (matched_in (in_body deep brackets)) source.now at result }
-    ensures further { IfOk result (λ r. at < r.1 × (r.1 ≤ length source.now)) }
-    ensures bounded { IfOk result (λ r. (1 ≤ r.0.height) × (deep + r.0.height ≤ 257)) }
+    ensures further { IfOk result (λ r. at < r.1 × (r.1 ≤ length source.now.words)) }
+    ensures bounded { IfOk result (λ r. (1 ≤ r.0.height) × (deep + r.0.height ≤ source.now.limits.trees + 1)) }
 {
     let (pattern, after) = pat(alloc, source, at, deep, brackets)?;
     let (_, next) = mark(source, after, TokenKind::Match)?;

@@ -25,12 +25,12 @@ pub fn list(
     brackets: usize,
     place: Span,
 ) -> Result<((Expr, usize), usize), Fault>
-    requires place { at ≤ length source.now }
-    requires tree { deep ≤ 256 }
-    requires bracket { brackets < 64 }
+    requires place { at ≤ length source.now.words }
+    requires tree { deep ≤ source.now.limits.trees }
+    requires bracket { brackets < source.now.limits.brackets }
     ensures reads { Gives closed (list_in (in_setting setting deep brackets) place) source.now at result }
-    ensures further { IfOk result (λ r. at < r.1 × (r.1 ≤ length source.now)) }
-    ensures bounded { IfOk result (λ r. (1 ≤ r.0.1) × (deep + r.0.1 ≤ 257)) }
+    ensures further { IfOk result (λ r. at < r.1 × (r.1 ≤ length source.now.words)) }
+    ensures bounded { IfOk result (λ r. (1 ≤ r.0.1) × (deep + r.0.1 ≤ source.now.limits.trees + 1)) }
 {
     if source.is(at, TokenKind::RightBracket) {
         let items = Listed::of(Vec::new(alloc));
@@ -42,7 +42,7 @@ pub fn list(
         };
         return Ok(((tree, 1), at + 1));
     }
-    if deep >= 256 {
+    if deep >= source.trees() {
         return Err(Fault::Refused(at, cause_of_first(source, at, setting)));
     }
     let (first, next) = level(alloc, source, at, 0, setting, deep + 1, brackets + 1)?;
@@ -61,14 +61,14 @@ fn after_first(
     place: Span,
     first: Placed<Expr>,
 ) -> Result<((Expr, usize), usize), Fault>
-    requires place { at ≤ length source.now }
-    requires tree { deep < 256 }
-    requires bracket { brackets < 64 }
+    requires place { at ≤ length source.now.words }
+    requires tree { deep < source.now.limits.trees }
+    requires bracket { brackets < source.now.limits.brackets }
     requires tall { 1 ≤ first.height }
-    requires height { deep + first.height ≤ 256 }
+    requires height { deep + first.height ≤ source.now.limits.trees }
     ensures reads { Gives closed (after_first_in (in_setting setting deep brackets) place first) source.now at result }
-    ensures further { IfOk result (λ r. at < r.1 × (r.1 ≤ length source.now)) }
-    ensures bounded { IfOk result (λ r. (1 ≤ r.0.1) × (deep + r.0.1 ≤ 257)) }
+    ensures further { IfOk result (λ r. at < r.1 × (r.1 ≤ length source.now.words)) }
+    ensures bounded { IfOk result (λ r. (1 ≤ r.0.1) × (deep + r.0.1 ≤ source.now.limits.trees + 1)) }
 {
     if !is_row(source, at, setting) {
         return list_items(alloc, source, at, setting, deep, brackets, place, first);
@@ -103,15 +103,15 @@ fn list_items(
     place: Span,
     first: Placed<Expr>,
 ) -> Result<((Expr, usize), usize), Fault>
-    requires place { at ≤ length source.now }
-    requires tree { deep < 256 }
-    requires bracket { brackets < 64 }
+    requires place { at ≤ length source.now.words }
+    requires tree { deep < source.now.limits.trees }
+    requires bracket { brackets < source.now.limits.brackets }
     requires tall { 1 ≤ first.height }
-    requires height { deep + first.height ≤ 256 }
-    requires row { NoRow (mode_of setting) (drop at source.now) }
+    requires height { deep + first.height ≤ source.now.limits.trees }
+    requires row { NoRow (mode_of setting) (drop at source.now.words) }
     ensures reads { Gives closed (after_first_in (in_setting setting deep brackets) place first) source.now at result }
-    ensures further { IfOk result (λ r. at < r.1 × (r.1 ≤ length source.now)) }
-    ensures bounded { IfOk result (λ r. (1 ≤ r.0.1) × (deep + r.0.1 ≤ 257)) }
+    ensures further { IfOk result (λ r. at < r.1 × (r.1 ≤ length source.now.words)) }
+    ensures bounded { IfOk result (λ r. (1 ≤ r.0.1) × (deep + r.0.1 ≤ source.now.limits.trees + 1)) }
 {
     let mut height = first.height;
     let mut items = vec![in alloc; first.tree]?;
@@ -155,12 +155,12 @@ fn last(
     deep: usize,
     brackets: usize,
 ) -> Result<(Placed<Expr>, usize), Fault>
-    requires place { at ≤ length source.now }
-    requires tree { deep ≤ 256 }
-    requires bracket { brackets ≤ 64 }
+    requires place { at ≤ length source.now.words }
+    requires tree { deep ≤ source.now.limits.trees }
+    requires bracket { brackets ≤ source.now.limits.brackets }
     ensures reads { Gives closed (last_in k.RightBracket (in_setting setting deep brackets)) source.now at result }
-    ensures further { IfOk result (λ r. at < r.1 × (r.1 ≤ length source.now)) }
-    ensures bounded { IfOk result (λ r. (1 ≤ r.0.height) × (deep + r.0.height ≤ 257)) }
+    ensures further { IfOk result (λ r. at < r.1 × (r.1 ≤ length source.now.words)) }
+    ensures bounded { IfOk result (λ r. (1 ≤ r.0.height) × (deep + r.0.height ≤ source.now.limits.trees + 1)) }
 {
     let (tail, after) = level(alloc, source, at, 0, setting, deep, brackets)?;
     let (_, next) = mark(source, after, TokenKind::RightBracket)?;

@@ -31,12 +31,12 @@ pub fn operand(
     deep: usize,
     brackets: usize,
 ) -> Result<(Placed<Expr>, usize), Fault>
-    requires place { at ≤ length source.now }
-    requires tree { deep ≤ 256 }
-    requires bracket { brackets ≤ 64 }
+    requires place { at ≤ length source.now.words }
+    requires tree { deep ≤ source.now.limits.trees }
+    requires bracket { brackets ≤ source.now.limits.brackets }
     ensures reads { Gives calls (operand_in (in_setting setting deep brackets)) source.now at result }
-    ensures further { IfOk result (λ r. at < r.1 × (r.1 ≤ length source.now)) }
-    ensures bounded { IfOk result (λ r. (1 ≤ r.0.height) × (deep + r.0.height ≤ 257)) }
+    ensures further { IfOk result (λ r. at < r.1 × (r.1 ≤ length source.now.words)) }
+    ensures bounded { IfOk result (λ r. (1 ≤ r.0.height) × (deep + r.0.height ≤ source.now.limits.trees + 1)) }
 {
     let Some(numbered) = source.token(at) else {
         return Err(Fault::Refused(at, Cause::Syntax));
@@ -96,7 +96,7 @@ pub fn operand(
         }
         TokenKind::LeftBrace => tuple(alloc, source, at, setting, deep, brackets, numbered),
         TokenKind::LeftBracket => {
-            if brackets >= 64 {
+            if brackets >= source.brackets() {
                 return Err(Fault::Refused(at, Cause::TooDeep));
             }
             let ((tree, height), next) = list(
@@ -133,18 +133,18 @@ fn prefixed(
     numbered: Numbered,
     op: Prefix,
 ) -> Result<(Placed<Expr>, usize), Fault>
-    requires place { at ≤ length source.now }
-    requires tree { deep ≤ 256 }
-    requires bracket { brackets ≤ 64 }
+    requires place { at ≤ length source.now.words }
+    requires tree { deep ≤ source.now.limits.trees }
+    requires bracket { brackets ≤ source.now.limits.brackets }
     requires token { StandsAt source.now at numbered }
     requires operator { prefix_of numbered.token.kind ≡ Some op }
-    requires within { at < length source.now }
-    requires short { length source.now < 2 ^ 64 }
+    requires within { at < length source.now.words }
+    requires short { length source.now.words < 2 ^ 64 }
     ensures reads { Gives calls (operand_in (in_setting setting deep brackets)) source.now at result }
-    ensures further { IfOk result (λ r. at < r.1 × (r.1 ≤ length source.now)) }
-    ensures bounded { IfOk result (λ r. (1 ≤ r.0.height) × (deep + r.0.height ≤ 257)) }
+    ensures further { IfOk result (λ r. at < r.1 × (r.1 ≤ length source.now.words)) }
+    ensures bounded { IfOk result (λ r. (1 ≤ r.0.height) × (deep + r.0.height ≤ source.now.limits.trees + 1)) }
 {
-    if deep >= 256 {
+    if deep >= source.trees() {
         return Err(Fault::Refused(at, Cause::TooDeep));
     }
     let (part, next) = operand(alloc, source, at + 1, setting, deep + 1, brackets)?;
@@ -176,18 +176,19 @@ fn tuple(
     brackets: usize,
     numbered: Numbered,
 ) -> Result<(Placed<Expr>, usize), Fault>
-    requires place { at ≤ length source.now }
-    requires tree { deep ≤ 256 }
-    requires bracket { brackets ≤ 64 }
+    requires place { at ≤ length source.now.words }
+    requires tree { deep ≤ source.now.limits.trees }
+    requires bracket { brackets ≤ source.now.limits.brackets }
     requires token { StandsAt source.now at numbered }
     requires brace { numbered.token.kind ≡ k.LeftBrace }
-    requires within { at < length source.now }
-    requires short { length source.now < 2 ^ 64 }
+    requires within { at < length source.now.words }
+    requires short { length source.now.words < 2 ^ 64 }
+    requires trees { source.now.limits.trees ≤ 2 ^ 32 }
     ensures reads { Gives calls (operand_in (in_setting setting deep brackets)) source.now at result }
-    ensures further { IfOk result (λ r. at < r.1 × (r.1 ≤ length source.now)) }
-    ensures bounded { IfOk result (λ r. (1 ≤ r.0.height) × (deep + r.0.height ≤ 257)) }
+    ensures further { IfOk result (λ r. at < r.1 × (r.1 ≤ length source.now.words)) }
+    ensures bounded { IfOk result (λ r. (1 ≤ r.0.height) × (deep + r.0.height ≤ source.now.limits.trees + 1)) }
 {
-    if brackets >= 64 {
+    if brackets >= source.brackets() {
         return Err(Fault::Refused(at, Cause::TooDeep));
     }
     let ((items, height), next) = exprs(
@@ -220,21 +221,21 @@ fn block(
     brackets: usize,
     numbered: Numbered,
 ) -> Result<(Placed<Expr>, usize), Fault>
-    requires place { at ≤ length source.now }
-    requires tree { deep ≤ 256 }
-    requires bracket { brackets ≤ 64 }
+    requires place { at ≤ length source.now.words }
+    requires tree { deep ≤ source.now.limits.trees }
+    requires bracket { brackets ≤ source.now.limits.brackets }
     requires token { StandsAt source.now at numbered }
     requires begins { IsTrue (begins_block numbered.token.kind) }
-    requires within { at < length source.now }
-    requires short { length source.now < 2 ^ 64 }
+    requires within { at < length source.now.words }
+    requires short { length source.now.words < 2 ^ 64 }
     ensures reads { Gives calls (operand_in (in_body deep brackets)) source.now at result }
-    ensures further { IfOk result (λ r. at < r.1 × (r.1 ≤ length source.now)) }
-    ensures bounded { IfOk result (λ r. (1 ≤ r.0.height) × (deep + r.0.height ≤ 257)) }
+    ensures further { IfOk result (λ r. at < r.1 × (r.1 ≤ length source.now.words)) }
+    ensures bounded { IfOk result (λ r. (1 ≤ r.0.height) × (deep + r.0.height ≤ source.now.limits.trees + 1)) }
 {
-    if deep >= 256 {
+    if deep >= source.trees() {
         return Err(Fault::Refused(at, Cause::TooDeep));
     }
-    if brackets >= 64 {
+    if brackets >= source.brackets() {
         return Err(Fault::Refused(at, Cause::TooDeep));
     }
     let place = numbered.token.span;
@@ -305,13 +306,13 @@ fn case_parts(
     deep: usize,
     brackets: usize,
 ) -> Result<((Placed<Expr>, (Listed<Alt>, usize)), usize), Fault>
-    requires place { at ≤ length source.now }
-    requires tree { deep ≤ 256 }
-    requires bracket { brackets ≤ 64 }
+    requires place { at ≤ length source.now.words }
+    requires tree { deep ≤ source.now.limits.trees }
+    requires bracket { brackets ≤ source.now.limits.brackets }
     ensures reads { Gives closed (case_in (in_body deep brackets)) source.now at result }
-    ensures further { IfOk result (λ r. at < r.1 × (r.1 ≤ length source.now)) }
-    ensures value { IfOk result (λ r. (1 ≤ r.0.0.height) × (deep + r.0.0.height ≤ 257)) }
-    ensures alts { IfOk result (λ r. deep + r.0.1.1 ≤ 257) }
+    ensures further { IfOk result (λ r. at < r.1 × (r.1 ≤ length source.now.words)) }
+    ensures value { IfOk result (λ r. (1 ≤ r.0.0.height) × (deep + r.0.0.height ≤ source.now.limits.trees + 1)) }
+    ensures alts { IfOk result (λ r. deep + r.0.1.1 ≤ source.now.limits.trees + 1) }
 {
     let (value, after) = level(alloc, source, at, 0, Setting::Body, deep, brackets)?;
     let ((), first) = mark(source, after, TokenKind::Of)?;
@@ -329,12 +330,12 @@ pub fn common(
     deep: usize,
     brackets: usize,
 ) -> Result<(Placed<Expr>, usize), Fault>
-    requires place { at ≤ length source.now }
-    requires tree { deep ≤ 256 }
-    requires bracket { brackets ≤ 64 }
+    requires place { at ≤ length source.now.words }
+    requires tree { deep ≤ source.now.limits.trees }
+    requires bracket { brackets ≤ source.now.limits.brackets }
     ensures reads { Gives closed (common_in (in_setting setting deep brackets)) source.now at result }
-    ensures further { IfOk result (λ r. at < r.1 × (r.1 ≤ length source.now)) }
-    ensures bounded { IfOk result (λ r. (1 ≤ r.0.height) × (deep + r.0.height ≤ 257)) }
+    ensures further { IfOk result (λ r. at < r.1 × (r.1 ≤ length source.now.words)) }
+    ensures bounded { IfOk result (λ r. (1 ≤ r.0.height) × (deep + r.0.height ≤ source.now.limits.trees + 1)) }
 {
     let Some(numbered) = source.token(at) else {
         return Err(Fault::Refused(at, Cause::Syntax));
@@ -342,7 +343,7 @@ pub fn common(
     let place = numbered.token.span;
     match numbered.token.kind {
         TokenKind::LeftBits => {
-            if brackets >= 64 {
+            if brackets >= source.brackets() {
                 return Err(Fault::Refused(at, Cause::TooDeep));
             }
             let ((tree, height), next) = bits(
@@ -364,7 +365,7 @@ pub fn common(
             ))
         }
         TokenKind::LeftParen => {
-            if brackets >= 64 {
+            if brackets >= source.brackets() {
                 return Err(Fault::Refused(at, Cause::TooDeep));
             }
             let (inner, after) = level(alloc, source, at + 1, 0, setting, deep, brackets + 1)?;
@@ -390,13 +391,13 @@ fn literal(
     numbered: Numbered,
 ) -> Result<(Placed<Expr>, usize), Fault>
     requires token { StandsAt source.now at numbered }
-    requires within { at < length source.now }
-    requires short { length source.now < 2 ^ 64 }
+    requires within { at < length source.now.words }
+    requires short { length source.now.words < 2 ^ 64 }
     requires narrow { numbered.value < 2 ^ 127 }
     requires bits { numbered.token.kind ≢ k.LeftBits }
     requires paren { numbered.token.kind ≢ k.LeftParen }
     ensures reads { (c : Context) → c.mode ≢ InSize → Gives closed (common_in c) source.now at result }
-    ensures further { IfOk result (λ r. at < r.1 × (r.1 ≤ length source.now)) }
+    ensures further { IfOk result (λ r. at < r.1 × (r.1 ≤ length source.now.words)) }
     ensures height { IfOk result (λ r. r.0.height ≡ 1) }
 {
     let place = numbered.token.span;
@@ -461,12 +462,12 @@ pub fn after_atom(
     place: Span,
     name: u32,
 ) -> Result<((Expr, usize), usize), Fault>
-    requires place { at ≤ length source.now }
-    requires tree { deep ≤ 256 }
-    requires bracket { brackets ≤ 64 }
+    requires place { at ≤ length source.now.words }
+    requires tree { deep ≤ source.now.limits.trees }
+    requires bracket { brackets ≤ source.now.limits.brackets }
     ensures reads { Gives calls (after_atom_in (in_setting setting deep brackets) place name) source.now at result }
-    ensures further { IfOk result (λ r. at ≤ r.1 × (r.1 ≤ length source.now)) }
-    ensures bounded { IfOk result (λ r. (1 ≤ r.0.1) × (deep + r.0.1 ≤ 257)) }
+    ensures further { IfOk result (λ r. at ≤ r.1 × (r.1 ≤ length source.now.words)) }
+    ensures bounded { IfOk result (λ r. (1 ≤ r.0.1) × (deep + r.0.1 ≤ source.now.limits.trees + 1)) }
 {
     if !source.is(at, TokenKind::LeftParen) {
         let qualifier = Expr::Atom {
@@ -475,7 +476,7 @@ pub fn after_atom(
         };
         return qualified(alloc, source, at, setting, deep, brackets, place, qualifier);
     }
-    if brackets >= 64 {
+    if brackets >= source.brackets() {
         return Err(Fault::Refused(at, Cause::TooDeep));
     }
     let ((args, height), next) = exprs(
@@ -514,20 +515,20 @@ pub fn qualified(
     place: Span,
     qualifier: Expr,
 ) -> Result<((Expr, usize), usize), Fault>
-    requires place { at ≤ length source.now }
-    requires tree { deep ≤ 256 }
-    requires bracket { brackets ≤ 64 }
+    requires place { at ≤ length source.now.words }
+    requires tree { deep ≤ source.now.limits.trees }
+    requires bracket { brackets ≤ source.now.limits.brackets }
     ensures reads { Gives calls (qualified_in (in_setting setting deep brackets) place qualifier) source.now at result }
-    ensures further { IfOk result (λ r. at ≤ r.1 × (r.1 ≤ length source.now)) }
-    ensures bounded { IfOk result (λ r. (1 ≤ r.0.1) × (deep + r.0.1 ≤ 257)) }
+    ensures further { IfOk result (λ r. at ≤ r.1 × (r.1 ≤ length source.now.words)) }
+    ensures bounded { IfOk result (λ r. (1 ≤ r.0.1) × (deep + r.0.1 ≤ source.now.limits.trees + 1)) }
 {
     if !source.is(at, TokenKind::Colon) {
         return Ok(((qualifier, 1), at));
     }
-    if deep >= 256 {
+    if deep >= source.trees() {
         return Err(Fault::Refused(at, Cause::TooDeep));
     }
-    if brackets >= 64 {
+    if brackets >= source.brackets() {
         return Err(Fault::Refused(at, Cause::TooDeep));
     }
     let Some(name) = source.atom(at + 1) else {

@@ -25,14 +25,14 @@ pub fn quals(
     brackets: usize,
     close: TokenKind,
 ) -> Result<((Listed<Qual>, usize), usize), Fault>
-    requires place { at ≤ length source.now }
-    requires tree { deep ≤ 256 }
-    requires bracket { brackets ≤ 64 }
+    requires place { at ≤ length source.now.words }
+    requires tree { deep ≤ source.now.limits.trees }
+    requires bracket { brackets ≤ source.now.limits.brackets }
     requires closes { Closes close }
     requires ends { qual_longer close ≡ false }
     ensures reads { Gives closed (quals_in close (in_body deep brackets)) source.now at result }
-    ensures further { IfOk result (λ r. at < r.1 × (r.1 ≤ length source.now)) }
-    ensures bounded { IfOk result (λ r. (1 ≤ r.0.1) × (deep + r.0.1 ≤ 257)) }
+    ensures further { IfOk result (λ r. at < r.1 × (r.1 ≤ length source.now.words)) }
+    ensures bounded { IfOk result (λ r. (1 ≤ r.0.1) × (deep + r.0.1 ≤ source.now.limits.trees + 1)) }
 {
     let mut items = Vec::new(alloc);
     let mut height = 0;
@@ -60,12 +60,12 @@ pub fn qual(
     deep: usize,
     brackets: usize,
 ) -> Result<((Qual, usize), usize), Fault>
-    requires place { at ≤ length source.now }
-    requires tree { deep ≤ 256 }
-    requires bracket { brackets ≤ 64 }
+    requires place { at ≤ length source.now.words }
+    requires tree { deep ≤ source.now.limits.trees }
+    requires bracket { brackets ≤ source.now.limits.brackets }
     ensures reads { Gives qual_longer (qual_in (in_body deep brackets)) source.now at result }
-    ensures further { IfOk result (λ r. at < r.1 × (r.1 ≤ length source.now)) }
-    ensures bounded { IfOk result (λ r. (1 ≤ r.0.1) × (deep + r.0.1 ≤ 257)) }
+    ensures further { IfOk result (λ r. at < r.1 × (r.1 ≤ length source.now.words)) }
+    ensures bounded { IfOk result (λ r. (1 ≤ r.0.1) × (deep + r.0.1 ≤ source.now.limits.trees + 1)) }
 {
     let fault = match generated(alloc, source, at, deep, brackets) {
         Ok((first, after)) => {
@@ -84,7 +84,7 @@ pub fn qual(
         let read = level(alloc, source, at, 0, Setting::Body, deep, brackets);
         return filter(source, at, fault, None, read);
     };
-    if brackets >= 64 {
+    if brackets >= source.brackets() {
         return Err(Fault::Refused(at, Cause::TooDeep));
     }
     match segments(alloc, source, at + 1, deep, brackets) {
@@ -114,12 +114,12 @@ fn generated(
     deep: usize,
     brackets: usize,
 ) -> Result<(Placed<Pattern>, usize), Fault>
-    requires place { at ≤ length source.now }
-    requires tree { deep ≤ 256 }
-    requires bracket { brackets ≤ 64 }
+    requires place { at ≤ length source.now.words }
+    requires tree { deep ≤ source.now.limits.trees }
+    requires bracket { brackets ≤ source.now.limits.brackets }
     ensures reads { Gives closed (generated_in (in_body deep brackets)) source.now at result }
-    ensures further { IfOk result (λ r. at < r.1 × (r.1 ≤ length source.now)) }
-    ensures bounded { IfOk result (λ r. (1 ≤ r.0.height) × (deep + r.0.height ≤ 257)) }
+    ensures further { IfOk result (λ r. at < r.1 × (r.1 ≤ length source.now.words)) }
+    ensures bounded { IfOk result (λ r. (1 ≤ r.0.height) × (deep + r.0.height ≤ source.now.limits.trees + 1)) }
 {
     let (first, after) = pattern(alloc, source, at, deep, brackets)?;
     let (_, next) = mark(source, after, TokenKind::LeftArrow)?;
@@ -134,12 +134,12 @@ fn segments(
     deep: usize,
     brackets: usize,
 ) -> Result<((Listed<Segment>, usize), usize), Fault>
-    requires place { at ≤ length source.now }
-    requires tree { deep ≤ 256 }
-    requires bracket { brackets < 64 }
+    requires place { at ≤ length source.now.words }
+    requires tree { deep ≤ source.now.limits.trees }
+    requires bracket { brackets < source.now.limits.brackets }
     ensures reads { Gives closed (segments_in (in_body deep brackets)) source.now at result }
-    ensures further { IfOk result (λ r. at < r.1 × (r.1 ≤ length source.now)) }
-    ensures bounded { IfOk result (λ r. (1 ≤ r.0.1) × (deep + r.0.1 ≤ 257)) }
+    ensures further { IfOk result (λ r. at < r.1 × (r.1 ≤ length source.now.words)) }
+    ensures bounded { IfOk result (λ r. (1 ≤ r.0.1) × (deep + r.0.1 ≤ source.now.limits.trees + 1)) }
 {
     let (read, after) = pattern_bits(alloc, source, at, deep, brackets)?;
     let (_, next) = mark(source, after, TokenKind::DoubleLeftArrow)?;
@@ -148,10 +148,12 @@ fn segments(
 
 /// The place in the text of the `<<` that stands there.
 fn opening(source: &Source, at: usize) -> Option<Span>
-    requires { at ≤ length source.now }
-    ensures opening { MatchOption result (NoMark k.LeftBits (drop at source.now)) (λ place. OpensBits source.now at place) }
-    ensures within { OnSome result (at < length source.now) }
-    ensures short { length source.now < 2 ^ 64 }
+    requires { at ≤ length source.now.words }
+    ensures opening { MatchOption result (NoMark k.LeftBits (drop at source.now.words)) (λ place. OpensBits source.now at place) }
+    ensures within { OnSome result (at < length source.now.words) }
+    ensures short { length source.now.words < 2 ^ 64 }
+    ensures trees { source.now.limits.trees ≤ 2 ^ 32 }
+    ensures brackets { source.now.limits.brackets ≤ 2 ^ 32 }
 {
     let Some(numbered) = source.token(at) else {
         return None;

@@ -21,10 +21,12 @@ use std::alloc::Global;
 
 /// The operator before an expression that stands there, with its place.
 fn prefix_at(source: &Source, at: usize) -> Option<(Span, Prefix)>
-    requires { at ≤ length source.now }
-    ensures operator { MatchOption result (NoPrefix (drop at source.now)) (λ s. PrefixAt source.now at s.0 s.1) }
-    ensures within { OnSome result (at < length source.now) }
-    ensures short { length source.now < 2 ^ 64 }
+    requires { at ≤ length source.now.words }
+    ensures operator { MatchOption result (NoPrefix (drop at source.now.words)) (λ s. PrefixAt source.now at s.0 s.1) }
+    ensures within { OnSome result (at < length source.now.words) }
+    ensures short { length source.now.words < 2 ^ 64 }
+    ensures trees { source.now.limits.trees ≤ 2 ^ 32 }
+    ensures brackets { source.now.limits.brackets ≤ 2 ^ 32 }
 {
     let Some(numbered) = source.token(at) else {
         return None;
@@ -37,15 +39,18 @@ fn prefix_at(source: &Source, at: usize) -> Option<(Span, Prefix)>
 
 /// Whether qualifiers follow what stands in front. In a guard they can't.
 pub fn is_row(source: &Source, at: usize, setting: Setting) -> bool
-    requires { at ≤ length source.now }
+    requires { at ≤ length source.now.words }
     ensures body { IsTrue result → mode_of setting ≡ InBody }
     ensures yes { IsTrue result → IsAt source.now at k.DoubleBar }
-    ensures no { result ≡ false → NoRow (mode_of setting) (drop at source.now) }
-    ensures within { IsTrue result → at < length source.now }
-    ensures short { IsTrue result → length source.now < 2 ^ 64 }
+    ensures no { result ≡ false → NoRow (mode_of setting) (drop at source.now.words) }
+    ensures within { IsTrue result → at < length source.now.words }
+    ensures short { length source.now.words < 2 ^ 64 }
+    ensures trees { source.now.limits.trees ≤ 2 ^ 32 }
+    ensures brackets { source.now.limits.brackets ≤ 2 ^ 32 }
 {
+    let stands = source.is(at, TokenKind::DoubleBar);
     match setting {
-        Setting::Body => source.is(at, TokenKind::DoubleBar),
+        Setting::Body => stands,
         Setting::Guard => false,
     }
 }
@@ -68,8 +73,8 @@ fn begins_simple(kind: TokenKind) -> bool
 
 /// Why no segment's value stands where it would be too deep.
 fn simple_cause(source: &Source, at: usize) -> Cause
-    requires { at ≤ length source.now }
-    ensures { FirstToken begins_simple (drop at source.now) result }
+    requires { at ≤ length source.now.words }
+    ensures { FirstToken begins_simple (drop at source.now.words) result }
 {
     let Some(numbered) = source.token(at) else {
         return Cause::Syntax;
@@ -92,12 +97,12 @@ pub fn bits(
     brackets: usize,
     place: Span,
 ) -> Result<((Expr, usize), usize), Fault>
-    requires place { at ≤ length source.now }
-    requires tree { deep ≤ 256 }
-    requires bracket { brackets < 64 }
+    requires place { at ≤ length source.now.words }
+    requires tree { deep ≤ source.now.limits.trees }
+    requires bracket { brackets < source.now.limits.brackets }
     ensures reads { Gives closed (bits_in (in_setting setting deep brackets) place) source.now at result }
-    ensures further { IfOk result (λ r. at < r.1 × (r.1 ≤ length source.now)) }
-    ensures bounded { IfOk result (λ r. (1 ≤ r.0.1) × (deep + r.0.1 ≤ 257)) }
+    ensures further { IfOk result (λ r. at < r.1 × (r.1 ≤ length source.now.words)) }
+    ensures bounded { IfOk result (λ r. (1 ≤ r.0.1) × (deep + r.0.1 ≤ source.now.limits.trees + 1)) }
 {
     if source.is(at, TokenKind::RightBits) {
         let segments = Listed::of(Vec::new(alloc));
@@ -113,7 +118,7 @@ pub fn bits(
         ));
     }
     if let Some((sign, op)) = prefix_at(source, at) {
-        if deep >= 255 {
+        if deep + 1 >= source.trees() {
             return Err(Fault::Refused(at, Cause::TooDeep));
         }
         let ((first, height), next) = prefixed(
@@ -130,7 +135,7 @@ pub fn bits(
             alloc, source, next, setting, deep, brackets, place, first, height,
         );
     }
-    if deep >= 256 {
+    if deep >= source.trees() {
         return Err(Fault::Refused(at, simple_cause(source, at)));
     }
     let (value, next) = simple(alloc, source, at, setting, deep + 1, brackets + 1)?;
@@ -149,14 +154,14 @@ fn after_value(
     place: Span,
     value: Placed<Expr>,
 ) -> Result<((Expr, usize), usize), Fault>
-    requires place { at ≤ length source.now }
-    requires tree { deep < 256 }
-    requires bracket { brackets < 64 }
+    requires place { at ≤ length source.now.words }
+    requires tree { deep < source.now.limits.trees }
+    requires bracket { brackets < source.now.limits.brackets }
     requires tall { 1 ≤ value.height }
-    requires height { deep + value.height ≤ 256 }
+    requires height { deep + value.height ≤ source.now.limits.trees }
     ensures reads { GivesBehind (bits_in (in_setting setting deep brackets) place) (after_value_in (in_setting setting deep brackets) place value) (λ r. r) source.now at result }
-    ensures further { IfOk result (λ r. at < r.1 × (r.1 ≤ length source.now)) }
-    ensures bounded { IfOk result (λ r. (1 ≤ r.0.1) × (deep + r.0.1 ≤ 257)) }
+    ensures further { IfOk result (λ r. at < r.1 × (r.1 ≤ length source.now.words)) }
+    ensures bounded { IfOk result (λ r. (1 ≤ r.0.1) × (deep + r.0.1 ≤ source.now.limits.trees + 1)) }
 {
     if !is_row(source, at, setting) {
         let ((first, height), next) = segment_rest(
@@ -208,14 +213,14 @@ fn more_segments(
     first: Segment,
     height: usize,
 ) -> Result<((Expr, usize), usize), Fault>
-    requires place { at ≤ length source.now }
-    requires tree { deep < 256 }
-    requires bracket { brackets < 64 }
+    requires place { at ≤ length source.now.words }
+    requires tree { deep < source.now.limits.trees }
+    requires bracket { brackets < source.now.limits.brackets }
     requires tall { 1 ≤ height }
-    requires height { deep + height ≤ 256 }
+    requires height { deep + height ≤ source.now.limits.trees }
     ensures reads { GivesBehind (bits_in (in_setting setting deep brackets) place) (more_segments_in (inside (under (in_setting setting deep brackets)))) (λ q. (x.Bits place (first ∷ q.0), max height q.1 + 1)) source.now at result }
-    ensures further { IfOk result (λ r. at < r.1 × (r.1 ≤ length source.now)) }
-    ensures bounded { IfOk result (λ r. (1 ≤ r.0.1) × (deep + r.0.1 ≤ 257)) }
+    ensures further { IfOk result (λ r. at < r.1 × (r.1 ≤ length source.now.words)) }
+    ensures bounded { IfOk result (λ r. (1 ≤ r.0.1) × (deep + r.0.1 ≤ source.now.limits.trees + 1)) }
 {
     let mut segments = vec![in alloc; first]?;
     let mut highest = height;
@@ -261,15 +266,15 @@ pub fn segment(
     deep: usize,
     brackets: usize,
 ) -> Result<((Segment, usize), usize), Fault>
-    requires place { at ≤ length source.now }
-    requires tree { deep ≤ 256 }
-    requires bracket { brackets ≤ 64 }
+    requires place { at ≤ length source.now.words }
+    requires tree { deep ≤ source.now.limits.trees }
+    requires bracket { brackets ≤ source.now.limits.brackets }
     ensures reads { Gives segment_longer (segment_in (in_setting setting deep brackets)) source.now at result }
-    ensures further { IfOk result (λ r. at < r.1 × (r.1 ≤ length source.now)) }
-    ensures bounded { IfOk result (λ r. (1 ≤ r.0.1) × (deep + r.0.1 ≤ 257)) }
+    ensures further { IfOk result (λ r. at < r.1 × (r.1 ≤ length source.now.words)) }
+    ensures bounded { IfOk result (λ r. (1 ≤ r.0.1) × (deep + r.0.1 ≤ source.now.limits.trees + 1)) }
 {
     if let Some((sign, op)) = prefix_at(source, at) {
-        if deep >= 256 {
+        if deep >= source.trees() {
             return Err(Fault::Refused(at, Cause::TooDeep));
         }
         return prefixed(alloc, source, at, setting, deep, brackets, sign, op);
@@ -290,14 +295,15 @@ fn prefixed(
     sign: Span,
     op: Prefix,
 ) -> Result<((Segment, usize), usize), Fault>
-    requires place { at < length source.now }
-    requires tree { deep < 256 }
-    requires bracket { brackets ≤ 64 }
+    requires place { at < length source.now.words }
+    requires tree { deep < source.now.limits.trees }
+    requires bracket { brackets ≤ source.now.limits.brackets }
     requires operator { PrefixAt source.now at sign op }
-    requires short { length source.now < 2 ^ 64 }
+    requires short { length source.now.words < 2 ^ 64 }
+    requires trees { source.now.limits.trees ≤ 2 ^ 32 }
     ensures reads { Gives segment_longer (prefixed_in (in_setting setting deep brackets)) source.now at result }
-    ensures further { IfOk result (λ r. at < r.1 × (r.1 ≤ length source.now)) }
-    ensures bounded { IfOk result (λ r. (1 ≤ r.0.1) × (deep + r.0.1 ≤ 257)) }
+    ensures further { IfOk result (λ r. at < r.1 × (r.1 ≤ length source.now.words)) }
+    ensures bounded { IfOk result (λ r. (1 ≤ r.0.1) × (deep + r.0.1 ≤ source.now.limits.trees + 1)) }
 {
     let (part, next) = simple(alloc, source, at + 1, setting, deep + 1, brackets)?;
     let height = part.height + 1;
@@ -320,12 +326,12 @@ pub fn simple(
     deep: usize,
     brackets: usize,
 ) -> Result<(Placed<Expr>, usize), Fault>
-    requires place { at ≤ length source.now }
-    requires tree { deep ≤ 256 }
-    requires bracket { brackets ≤ 64 }
+    requires place { at ≤ length source.now.words }
+    requires tree { deep ≤ source.now.limits.trees }
+    requires bracket { brackets ≤ source.now.limits.brackets }
     ensures reads { Gives closed (simple_in (in_setting setting deep brackets)) source.now at result }
-    ensures further { IfOk result (λ r. at < r.1 × (r.1 ≤ length source.now)) }
-    ensures bounded { IfOk result (λ r. (1 ≤ r.0.height) × (deep + r.0.height ≤ 257)) }
+    ensures further { IfOk result (λ r. at < r.1 × (r.1 ≤ length source.now.words)) }
+    ensures bounded { IfOk result (λ r. (1 ≤ r.0.height) × (deep + r.0.height ≤ source.now.limits.trees + 1)) }
 {
     let Some(numbered) = source.token(at) else {
         return common(alloc, source, at, setting, deep, brackets);
@@ -358,14 +364,14 @@ pub fn segment_rest(
     brackets: usize,
     value: Placed<Expr>,
 ) -> Result<((Segment, usize), usize), Fault>
-    requires place { at ≤ length source.now }
-    requires tree { deep ≤ 256 }
-    requires bracket { brackets ≤ 64 }
+    requires place { at ≤ length source.now.words }
+    requires tree { deep ≤ source.now.limits.trees }
+    requires bracket { brackets ≤ source.now.limits.brackets }
     requires tall { 1 ≤ value.height }
-    requires height { deep + value.height ≤ 257 }
+    requires height { deep + value.height ≤ source.now.limits.trees + 1 }
     ensures reads { Gives segment_longer (segment_rest_in (in_setting setting deep brackets) value) source.now at result }
-    ensures further { IfOk result (λ r. at ≤ r.1 × (r.1 ≤ length source.now)) }
-    ensures bounded { IfOk result (λ r. (1 ≤ r.0.1) × (deep + r.0.1 ≤ 257)) }
+    ensures further { IfOk result (λ r. at ≤ r.1 × (r.1 ≤ length source.now.words)) }
+    ensures bounded { IfOk result (λ r. (1 ≤ r.0.1) × (deep + r.0.1 ≤ source.now.limits.trees + 1)) }
 {
     let height = value.height;
     if !source.is(at, TokenKind::Colon) {

@@ -4,9 +4,10 @@ use Rattle.std.proofs.lemmas.List.{length-append, length-drop}
 use Rattle.erl_syntax.specs.declared.token.TokenKind.{TokenKind}
 use Rattle.erl_syntax.specs.declared.pattern.Pattern.{Pattern}
 use Rattle.erl_syntax.specs.Word.{Word}
-use Rattle.erl_syntax.specs.Grammar.{Context, Limits, strict, Goal, Mark, At, The, Of, Part, APattern, Pat, Patterns, MorePatterns, Produces, pattern, pat_variable, pat_wild, pat_integer, pat_signed, pat_character, pat_atom, pat_string, pat_paren, pat_tuple, pat_list, pat_bits, no_patterns, patterns, more_patterns, end_patterns, Spells, ends, takes, begins, this, expands}
+use Rattle.erl_syntax.specs.Grammar.{Context, Limits, Goal, Mark, At, The, Of, Part, APattern, Pat, Patterns, MorePatterns, Produces, pattern, pat_variable, pat_wild, pat_integer, pat_signed, pat_character, pat_atom, pat_string, pat_paren, pat_tuple, pat_list, pat_bits, no_patterns, patterns, more_patterns, end_patterns, Spells, ends, takes, begins, this, expands}
 use Rattle.pattern_read.specs.Reading.{closed, Gives, IsWide}
 use Rattle.pattern_read.specs.WantedPatterns.{patterns_in}
+use Rattle.pattern_read.specs.Source.{Readable}
 
 -- how many tokens a part needs at least, as far as patterns go
 abbrev need : Part → ℕ
@@ -59,10 +60,10 @@ enough l _ _ (expands {g = g} {gs = gs} {w = w} goals p z) =
     let f : needs (goals ++ gs) ≡ needs goals + needs gs = needs_both goals gs in
     let n : need g ≤ needs goals = part_needs l g goals p in omega (arith, e, f, n)
 
-pub patterns_few : (close : TokenKind) (c : Context) (ws : List Word) (at after : ℕ) (ps : List Pattern × ℕ) → Gives closed (patterns_in close c) ws at (Ok (ps, after)) → length ps.0 ≤ length ws
+pub patterns_few : (close : TokenKind) (c : Context) (ws : Readable) (at after : ℕ) (ps : List Pattern × ℕ) → Gives closed (patterns_in close c) ws at (Ok (ps, after)) → length ps.0 ≤ length ws.words
 patterns_few close c ws at after ps g =
-    let v : IsWide strict = record { trees = omega arith; brackets = omega arith } in
-    let e : needs (patterns_in close c ps ++ []) ≤ length (g.front ++ []) = enough strict (patterns_in close c ps ++ []) (g.front ++ []) (g.back strict v tt [] [] ends) in
+    let v : IsWide ws.limits ws.limits = record { trees = omega arith; brackets = omega arith } in
+    let e : needs (patterns_in close c ps ++ []) ≤ length (g.front ++ []) = enough ws.limits (patterns_in close c ps ++ []) (g.front ++ []) (g.back ws.limits v tt [] [] ends) in
     let n : length (g.front ++ []) ≡ length g.front = ap length (append-nil g.front) in
-    let m : length (drop at ws) ≡ length g.front + length (drop after ws) = ap length g.whole ∙ length-append g.front (drop after ws) in
-    omega (arith, e, n, m, length-drop at ws)
+    let m : length (drop at ws.words) ≡ length g.front + length (drop after ws.words) = ap length g.whole ∙ length-append g.front (drop after ws.words) in
+    omega (arith, e, n, m, length-drop at ws.words)

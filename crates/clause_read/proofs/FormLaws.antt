@@ -25,7 +25,7 @@ no_more_forms = record { heads = []; exports = []; functions = [] }
 pub forms_end : (l : Limits) (gs : List Goal) (w : List Word) → Spells l gs w → Spells l (forms_in no_more_forms ++ gs) w
 forms_end l gs w d = expands _ no_forms d
 
-pub opens_forms : Opens forms_in
+pub opens_forms : {most : Limits} → Opens most forms_in
 opens_forms = record { tree = no_more_forms; words = []; spelled = λ l v gs w d. forms_end l gs w d }
 
 -- ---- Behind `-` and an atom
@@ -111,8 +111,8 @@ module_case {t = t} m (of_export ns u q0 q1 q2 z) = absurd (module_no_export t.c
 module_case {t = t} m (of_skipped q0 q1 z) = absurd (skipped_no_module t.chars m q1)
 module_case m (of_any q0 q1 q2) = absurd (q2 (inl m))
 
-pub on_module : (j t : Word) (rest : List Word) → j.kind ≡ k.Minus → t.kind ≡ k.Atom → t.chars ≡ module_word →
-    Passes {X = ModuleForms} {Y = Meaning × ModuleForms} anything forms_in (j ∷ t ∷ rest) module_left rest (λ p. with_head (head_at j p.0) p.1)
+pub on_module : {most : Limits} (j t : Word) (rest : List Word) → j.kind ≡ k.Minus → t.kind ≡ k.Atom → t.chars ≡ module_word →
+    Passes most {X = ModuleForms} {Y = Meaning × ModuleForms} anything forms_in (j ∷ t ∷ rest) module_left rest (λ p. with_head (head_at j p.0) p.1)
 on_module j t rest h a m = record {
   front = j ∷ t ∷ [];
   whole = refl;
@@ -127,8 +127,8 @@ export_case m (of_export ns u q0 q1 q2 z) = ((ns, u), q2, z)
 export_case {t = t} m (of_skipped q0 q1 z) = absurd (skipped_no_export t.chars m q1)
 export_case m (of_any q0 q1 q2) = absurd (q2 (inr (inl m)))
 
-pub on_export : (j t : Word) (rest : List Word) → j.kind ≡ k.Minus → t.kind ≡ k.Atom → t.chars ≡ export_word →
-    Passes {X = ModuleForms} {Y = List Name × ModuleForms} anything forms_in (j ∷ t ∷ rest) export_left rest (λ p. with_exports p.0 p.1)
+pub on_export : {most : Limits} (j t : Word) (rest : List Word) → j.kind ≡ k.Minus → t.kind ≡ k.Atom → t.chars ≡ export_word →
+    Passes most {X = ModuleForms} {Y = List Name × ModuleForms} anything forms_in (j ∷ t ∷ rest) export_left rest (λ p. with_exports p.0 p.1)
 on_export j t rest h a m = record {
   front = j ∷ t ∷ [];
   whole = refl;
@@ -143,8 +143,8 @@ skipped_case {t = t} m (of_export ns u q0 q1 q2 z) = absurd (skipped_no_export t
 skipped_case {r = r} m (of_skipped q0 q1 z) = ((tt, r), refl, z)
 skipped_case m (of_any q0 q1 q2) = absurd (q2 (inr (inr m)))
 
-pub on_skipped : (j t : Word) (rest : List Word) → j.kind ≡ k.Minus → t.kind ≡ k.Atom → Contains skipped_words t.chars →
-    Passes {X = ModuleForms} {Y = Unit {0} × ModuleForms} anything forms_in (j ∷ t ∷ rest) skipped_left rest (λ p. with_skipped p.0 p.1)
+pub on_skipped : {most : Limits} (j t : Word) (rest : List Word) → j.kind ≡ k.Minus → t.kind ≡ k.Atom → Contains skipped_words t.chars →
+    Passes most {X = ModuleForms} {Y = Unit {0} × ModuleForms} anything forms_in (j ∷ t ∷ rest) skipped_left rest (λ p. with_skipped p.0 p.1)
 on_skipped j t rest h a m = record {
   front = j ∷ t ∷ [];
   whole = refl;
@@ -175,7 +175,7 @@ no_atom_stops l r gs j _ (t ∷ w) h no_mark_end f s d = s
 no_atom_stops l r gs j _ [] h (no_mark u rest n) f s d = s
 no_atom_stops l r gs j _ (t ∷ w) h (no_mark u rest n) f s d = no_atom_here (λ e. n (ap (λ v. v.kind) (sym s) ∙ e)) (minus_forth l r.heads r.exports r.functions gs j t w f h d)
 
-pub no_attribute : (j : Word) (rest : List Word) → j.kind ≡ k.Minus → NoMark k.Atom rest → IsRefused {X = ModuleForms} anything forms_in (j ∷ rest) rest Syntax
+pub no_attribute : {most : Limits} (j : Word) (rest : List Word) → j.kind ≡ k.Minus → NoMark k.Atom rest → IsRefused most {X = ModuleForms} anything forms_in (j ∷ rest) rest Syntax
 no_attribute j rest h n = record {
   front = j ∷ [];
   whole = refl;
@@ -196,8 +196,8 @@ unknown_stops : (l : Limits) (r : ModuleForms) (gs : List Goal) (j t : Word) (re
 unknown_stops l r gs j t rest [] i h n f s d = s
 unknown_stops l r gs j t rest (u ∷ w) i h n f s d = unknown_here i (λ e. n (let P : Word → Type 0 = λ v. IsAttribute v.chars in subst P s e)) (minus_forth l r.heads r.exports r.functions gs j u w f h d)
 
-pub unknown_attribute : (j t : Word) (rest : List Word) → j.kind ≡ k.Minus → t.kind ≡ k.Atom → (IsAttribute t.chars → ⊥) → IsRefused {X = ModuleForms} anything forms_in (j ∷ t ∷ rest) (t ∷ rest) UnknownAttribute
-unknown_attribute j t rest h a n = record {
+pub unknown_attribute : {most : Limits} (j t : Word) (rest : List Word) → j.kind ≡ k.Minus → t.kind ≡ k.Atom → (IsAttribute t.chars → ⊥) → IsRefused most {X = ModuleForms} anything forms_in (j ∷ t ∷ rest) (t ∷ rest) UnknownAttribute
+unknown_attribute {most = most} j t rest h a n = record {
   front = j ∷ [];
   whole = refl;
   tree = with_head (head_at j (meaning (mark_word k.Atom))) no_more_forms;
@@ -205,7 +205,7 @@ unknown_attribute j t rest h a n = record {
   goes_on = λ l v gs w d. module_spells l j gs w h d;
   stops = λ l i r gs w f s d. unknown_stops l r gs j t rest w i h n f s d;
   excused = record {
-    limits = record { trees = 256; brackets = 64; any_attribute = true; any_type = false };
+    limits = record { trees = most.trees; brackets = most.brackets; any_attribute = true; any_type = false };
     wide = record { trees = omega arith; brackets = omega arith };
     allows = refl;
     first = t;
@@ -231,7 +231,7 @@ at_no_word : (l : Limits) (r : ModuleForms) (gs : List Goal) (w : List Word) →
 at_no_word l r gs [] s d = let m = none_forth l r.heads r.exports r.functions gs d in (tt, m.0, m.1)
 at_no_word l r gs (t ∷ w) s d = absurd s
 
-pub on_no_forms : Passes {X = ModuleForms} {Y = Unit {0}} anything forms_in [] nothing [] (λ u. no_more_forms)
+pub on_no_forms : {most : Limits} → Passes most {X = ModuleForms} {Y = Unit {0}} anything forms_in [] nothing [] (λ u. no_more_forms)
 on_no_forms = record {
   front = [];
   whole = refl;

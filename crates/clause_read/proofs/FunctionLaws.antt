@@ -47,7 +47,7 @@ clause_forth : (l : Limits) (cl : Clause) (gs : List Goal) (j : Word) (w : List 
     (p : (List Pattern × ℕ) × ((Guard × ℕ) × (List Item × ℕ))) × (cl ≡ clause_at j p) × Spells l (clause_left p ++ gs) w
 clause_forth l cl gs j w (expands _ (clause cl_0 t_0 ps dp g dg is di q0 q1) (this z)) = (((ps, dp), ((g, dg), (is, di))), q1, z)
 
-pub on_clause : (j : Word) (rest : List Word) → j.kind ≡ k.Atom → Passes {X = Clause} {Y = (List Pattern × ℕ) × ((Guard × ℕ) × (List Item × ℕ))} body_longer clause_in (j ∷ rest) clause_left rest (clause_at j)
+pub on_clause : {most : Limits} (j : Word) (rest : List Word) → j.kind ≡ k.Atom → Passes most {X = Clause} {Y = (List Pattern × ℕ) × ((Guard × ℕ) × (List Item × ℕ))} body_longer clause_in (j ∷ rest) clause_left rest (clause_at j)
 on_clause j rest h = record {
   front = j ∷ [];
   whole = refl;
@@ -76,13 +76,13 @@ guard_end l gs w d = expands _ (unguarded in_clause no_guard 0 refl refl) (takes
 rest_end : (l : Limits) (gs : List Goal) (w : List Word) → Spells l gs w → Spells l (clause_rest some_rest ++ gs) (mark_word k.RightParen ∷ (mark_word k.Arrow ∷ (some_word ∷ w)))
 rest_end l gs w d = expands _ (no_patterns k.RightParen in_head 0 refl) (takes (mark_word k.RightParen) refl (guard_end l gs w d))
 
-pub opens_rest : Opens clause_rest
+pub opens_rest : {most : Limits} → Opens most clause_rest
 opens_rest = record { tree = some_rest; words = mark_word k.RightParen ∷ mark_word k.Arrow ∷ some_word ∷ []; spelled = λ l v gs w d. rest_end l gs w d }
 
-pub guard_spelled : Spelled {X = List Pattern × ℕ} {Y = (Guard × ℕ) × (List Item × ℕ)} (λ p. guard_and_body) (mark_word k.Arrow ∷ some_word ∷ [])
+pub guard_spelled : {most : Limits} → Spelled most {X = List Pattern × ℕ} {Y = (Guard × ℕ) × (List Item × ℕ)} (λ p. guard_and_body) (mark_word k.Arrow ∷ some_word ∷ [])
 guard_spelled = record { tree = λ p. ((no_guard, 0), (some_body, 1)); spelled = λ l v p gs w d. guard_end l gs w d }
 
-pub body_spelled : Spelled {X = Guard × ℕ} {Y = List Item × ℕ} (λ g. body_in in_clause) (some_word ∷ [])
+pub body_spelled : {most : Limits} → Spelled most {X = Guard × ℕ} {Y = List Item × ℕ} (λ g. body_in in_clause) (some_word ∷ [])
 body_spelled = record { tree = λ g. (some_body, 1); spelled = λ l v g gs w d. body_end l gs w d }
 
 clause_stops : (l : Limits) (cl : Clause) (gs : List Goal) (rest w : List Word) → NoMark k.Atom rest → SameHead w rest → Spells l (Of (AClause cl) ∷ gs) w → ⊥
@@ -92,7 +92,7 @@ clause_stops l cl gs _ w (no_mark j rest n) s (expands _ (clause cl_0 t_0 ps dp 
 clause_end : (l : Limits) (gs : List Goal) (w : List Word) → Spells l gs w → Spells l (clause_in (clause_at (mark_word k.Atom) some_rest) ++ gs) (mark_word k.Atom ∷ (mark_word k.LeftParen ∷ (mark_word k.RightParen ∷ (mark_word k.Arrow ∷ (some_word ∷ w)))))
 clause_end l gs w d = expands _ (clause (clause_at (mark_word k.Atom) some_rest) (mark_word k.Atom) [] 0 no_guard 0 some_body 1 refl refl) (this (takes (mark_word k.LeftParen) refl (rest_end l gs w d)))
 
-pub no_clause : (rest : List Word) → NoMark k.Atom rest → IsRefused {X = Clause} body_longer clause_in rest rest Syntax
+pub no_clause : {most : Limits} (rest : List Word) → NoMark k.Atom rest → IsRefused most {X = Clause} body_longer clause_in rest rest Syntax
 no_clause rest n = record {
   front = [];
   whole = refl;
@@ -122,7 +122,7 @@ with_clauses p = with_function (function_of p.0 p.1.0) p.1.1
 data BeginsOther : List Word → Type 0 where
   begins_other : (j : Word) (rest : List Word) → (j.kind ≡ k.Minus → ⊥) → BeginsOther (j ∷ rest)
 
-pub other_begins : (ws rest : List Word) (j : Word) → ws ≡ j ∷ rest → NoMark k.Minus ws → (n : Word) × (n.kind ≡ k.Minus → ⊥) × (ws ≡ n ∷ rest)
+pub other_begins : (ws : List Word) (rest : List Word) (j : Word) → ws ≡ j ∷ rest → NoMark k.Minus ws → (n : Word) × (n.kind ≡ k.Minus → ⊥) × (ws ≡ n ∷ rest)
 other_begins _ rest j e no_mark_end = cc
 other_begins _ rest j e (no_mark i more n) = (i, n, (let f : more ≡ rest = cc in ap (λ v. i ∷ v) f))
 
@@ -144,7 +144,7 @@ function_word : (l : Limits) (r : ModuleForms) (gs : List Goal) (j : Word) (rest
 function_word l r gs j rest [] f h s d = absurd s
 function_word l r gs j rest (t ∷ w) f h s d = function_forth l r.heads r.exports r.functions gs t w f (λ e. h (ap (λ v. v.kind) (sym s) ∙ e)) d
 
-pub on_function : (j : Word) (rest : List Word) → (j.kind ≡ k.Minus → ⊥) → Passes {X = ModuleForms} {Y = Clause × (List Clause × ModuleForms)} anything forms_in (j ∷ rest) function_left (j ∷ rest) with_clauses
+pub on_function : {most : Limits} (j : Word) (rest : List Word) → (j.kind ≡ k.Minus → ⊥) → Passes most {X = ModuleForms} {Y = Clause × (List Clause × ModuleForms)} anything forms_in (j ∷ rest) function_left (j ∷ rest) with_clauses
 on_function j rest h = record {
   front = [];
   whole = refl;
@@ -163,7 +163,7 @@ more_forth : (l : Limits) (cls : List Clause) (r : ModuleForms) (gs : List Goal)
 more_forth l _ r gs j w h (expands _ (more_clauses cl cls) (takes t kk z)) = ((cl, (cls, r)), refl, z)
 more_forth l _ r gs j w h (expands _ end_clauses (takes t kk z)) = absurd (semicolon_no_stop (sym h ∙ kk))
 
-pub on_more_clauses : (j : Word) (rest : List Word) → j.kind ≡ k.Semicolon → Passes {X = List Clause × ModuleForms} {Y = Clause × (List Clause × ModuleForms)} anything clauses_left (j ∷ rest) function_left rest with_clause
+pub on_more_clauses : {most : Limits} (j : Word) (rest : List Word) → j.kind ≡ k.Semicolon → Passes most {X = List Clause × ModuleForms} {Y = Clause × (List Clause × ModuleForms)} anything clauses_left (j ∷ rest) function_left rest with_clause
 on_more_clauses j rest h = record {
   front = j ∷ [];
   whole = refl;
@@ -176,7 +176,7 @@ end_forth : (l : Limits) (cls : List Clause) (r : ModuleForms) (gs : List Goal) 
 end_forth l _ r gs j w h (expands _ (more_clauses cl cls) (takes t kk z)) = absurd (semicolon_no_stop (sym kk ∙ h))
 end_forth l _ r gs j w h (expands _ end_clauses (takes t kk z)) = (r, refl, z)
 
-pub on_end_clauses : (j : Word) (rest : List Word) → j.kind ≡ k.FullStop → Passes {X = List Clause × ModuleForms} {Y = ModuleForms} anything clauses_left (j ∷ rest) forms_in rest (λ r. ([], r))
+pub on_end_clauses : {most : Limits} (j : Word) (rest : List Word) → j.kind ≡ k.FullStop → Passes most {X = List Clause × ModuleForms} {Y = ModuleForms} anything clauses_left (j ∷ rest) forms_in rest (λ r. ([], r))
 on_end_clauses j rest h = record {
   front = j ∷ [];
   whole = refl;
@@ -193,7 +193,7 @@ more_stops l _ r gs _ w c (no_mark j rest n) s (expands _ end_clauses (takes t k
 clauses_end : (l : Limits) (gs : List Goal) (w : List Word) → Spells l gs w → Spells l (clauses_left ([], no_more_forms) ++ gs) (mark_word k.FullStop ∷ w)
 clauses_end l gs w d = expands _ end_clauses (takes (mark_word k.FullStop) refl (forms_end l gs w d))
 
-pub no_more_clauses : (rest : List Word) → NoMark k.Semicolon rest → NoMark k.FullStop rest → IsRefused {X = List Clause × ModuleForms} anything clauses_left rest rest Syntax
+pub no_more_clauses : {most : Limits} (rest : List Word) → NoMark k.Semicolon rest → NoMark k.FullStop rest → IsRefused most {X = List Clause × ModuleForms} anything clauses_left rest rest Syntax
 no_more_clauses rest a b = record {
   front = [];
   whole = refl;
@@ -204,7 +204,7 @@ no_more_clauses rest a b = record {
   excused = tt;
 }
 
-pub clauses_spelled : Spelled {X = Clause} {Y = List Clause × ModuleForms} (λ cl. clauses_left) (mark_word k.FullStop ∷ [])
+pub clauses_spelled : {most : Limits} → Spelled most {X = Clause} {Y = List Clause × ModuleForms} (λ cl. clauses_left) (mark_word k.FullStop ∷ [])
 clauses_spelled = record { tree = λ cl. ([], no_more_forms); spelled = λ l v cl gs w d. clauses_end l gs w d }
 
 lengthens : (l : Limits) (cls : List Clause) (r : ModuleForms) (gs : List Goal) (t : Word) (w : List Word) → IsTrue (body_longer t.kind) → Spells l (clauses_left (cls, r) ++ gs) (t ∷ w) → ⊥

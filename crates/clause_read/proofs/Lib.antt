@@ -1,3 +1,4 @@
+pub mod Again
 pub mod AllForms
 pub mod ClauseReads
 pub mod Counting

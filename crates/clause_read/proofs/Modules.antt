@@ -1,5 +1,5 @@
 -- The module that a text spells, and the fault of a text that spells none.
-use Rattle.std.proofs.Common.{◌≡◌, ℕ, ◌≤◌, ◌<◌, ◌⊎◌, inl, inr, List, [], ◌∷◌, ◌++◌, length, drop, Option, Some, None, refl, sym, ap, subst, ◌∙◌, arith}
+use Rattle.std.proofs.Common.{◌≡◌, ℕ, ◌≤◌, ◌<◌, ◌⊎◌, inl, inr, List, [], ◌∷◌, ◌++◌, length, drop, Option, Some, None, Ok, Err, refl, sym, ap, subst, ◌∙◌, arith}
 use Rattle.std.proofs.lemmas.List.{length-map}
 use Rattle.erl_syntax.specs.declared.span.Span.{Span}
 use Rattle.erl_syntax.specs.declared.token.Token.{Token}
@@ -10,18 +10,20 @@ use Rattle.erl_syntax.specs.declared.module.Module.{Module}
 use Rattle.erl_syntax.specs.Word.{Word}
 use Rattle.erl_syntax.specs.Tokens.{Lexes, place}
 use Rattle.erl_syntax.specs.Reading.{Reads, longest_text, atoms_of, words_of, word_of}
-use Rattle.erl_syntax.specs.Grammar.{Spells, ends, strict}
+use Rattle.erl_syntax.specs.Grammar.{Limits, Spells, ends, strict}
 use Rattle.erl_tokens.specs.Cutting.{IsFault}
 use Rattle.pattern_read.specs.declared.fault.Cause.{Cause}
 use Rattle.pattern_read.specs.declared.fault.Cause.TheVariants.{Syntax, TooDeep, UnknownAttribute, UnknownSegmentType, Undecided}
 use Rattle.clause_read.specs.declared.forms.ModuleForms.{ModuleForms}
 use Rattle.clause_read.specs.declared.read.ReadFault.{ReadFault}
+use Rattle.clause_read.specs.declared.read.ReadCause.{ReadCause}
 use Rattle.clause_read.specs.declared.read.ReadCause.TheVariants as r
 use Rattle.pattern_read.specs.declared.source.Numbered.{Numbered}
-use Rattle.pattern_read.specs.Source.{words}
+use Rattle.pattern_read.specs.Source.{Readable, words}
 use Rattle.pattern_read.specs.Reading.{Passes, IsRefused, IsWide, Stops, SameHead, Follows, nothing}
-use Rattle.clause_read.specs.WantedForms.{anything, forms_in}
-use Rattle.clause_read.specs.ReadText.{IsReadFault, memory, of_token, of_word, fault_at, place_in, told, told_of_token}
+use Rattle.pattern_read.specs.declared.fault.Fault.TheVariants.{Refused}
+use Rattle.clause_read.specs.WantedForms.{anything, forms_in, ReadsForms}
+use Rattle.clause_read.specs.ReadText.{IsReadFault, memory, of_token, of_word, fault_at, place_in, IsTold, told_of_token}
 
 abbrev pub module_with : ModuleForms → List (List ℕ) → Span → Module
 module_with fs atoms last = record { heads = fs.heads; exports = fs.exports; functions = fs.functions; atoms = atoms; last = last }
@@ -36,18 +38,18 @@ OneReading = (text : List ℕ) (s t : List Token) (f g : Option LexFault) → Le
 nothing_follows : Follows strict anything []
 nothing_follows t w h d = elim d [ ]
 
-wide : IsWide strict
+wide : IsWide strict strict
 wide = record { trees = omega arith; brackets = omega arith }
 
 same_head : (w : List Word) → SameHead w w
 same_head [] = tt
 same_head (j ∷ w) = refl
 
-spells_whole : (ws : List Word) (fs : ModuleForms) → Passes anything forms_in ws nothing [] (λ u. fs) → Spells strict (forms_in fs) ws
+spells_whole : (ws : List Word) (fs : ModuleForms) → Passes strict anything forms_in ws nothing [] (λ u. fs) → Spells strict (forms_in fs) ws
 spells_whole ws fs p = let P : List Word → Type 0 = λ w. Spells strict (forms_in fs) w in subst P (sym p.whole) (p.back strict wide tt [] [] ends)
 
 pub module_read : (text : List ℕ) (tokens : List Token) (ws : List Word) (atoms : List (List ℕ)) (fs : ModuleForms) (last : Span) (m : Module) → length text ≤ longest_text → Lexes text tokens None →
-    atoms ≡ atoms_of text tokens → ws ≡ words_of text (atoms_of text tokens) tokens → Passes anything forms_in ws nothing [] (λ u. fs) → last ≡ place text (length text) → m ≡ module_with fs atoms last → Reads text m
+    atoms ≡ atoms_of text tokens → ws ≡ words_of text (atoms_of text tokens) tokens → Passes strict anything forms_in ws nothing [] (λ u. fs) → last ≡ place text (length text) → m ≡ module_with fs atoms last → Reads text m
 module_read text tokens ws atoms fs last m h d a w p l e =
     let P : List Word → Type 0 = λ v. Spells strict (forms_in fs) v in
     let Q : List (List ℕ) → Type 0 = λ t. Spells strict (forms_in fs) (words_of text t tokens) in
@@ -66,7 +68,7 @@ module_made m fs atoms last e a l =
     ap (λ v. module_with v m.atoms m.last) e ∙ ap (λ v. module_with fs v m.last) a ∙ ap (λ v. module_with fs atoms v) l
 
 pub module_only : OneReading → (text : List ℕ) (tokens : List Token) (ws : List Word) (atoms : List (List ℕ)) (fs : ModuleForms) (last : Span) (m : Module) → Lexes text tokens None →
-    atoms ≡ atoms_of text tokens → ws ≡ words_of text (atoms_of text tokens) tokens → Passes anything forms_in ws nothing [] (λ u. fs) → last ≡ place text (length text) → m ≡ module_with fs atoms last →
+    atoms ≡ atoms_of text tokens → ws ≡ words_of text (atoms_of text tokens) tokens → Passes strict anything forms_in ws nothing [] (λ u. fs) → last ≡ place text (length text) → m ≡ module_with fs atoms last →
     (other : Module) → Reads text other → other ≡ m
 module_only one text tokens ws atoms fs last m d a w p l e other r =
     let same : r.tokens ≡ tokens = (one text r.tokens tokens None None r.lexes d).0 in
@@ -77,14 +79,14 @@ module_only one text tokens ws atoms fs last m d a w p l e other r =
 
 -- ---- Faults
 
-stops_strict : (why : Cause) → Stops why strict
+stops_strict : (why : Cause) → Stops strict why strict
 stops_strict Syntax = tt
 stops_strict TooDeep = record { trees = refl; brackets = refl; any_attribute = refl; any_type = refl }
 stops_strict UnknownAttribute = refl
 stops_strict UnknownSegmentType = refl
 stops_strict Undecided = record { trees = refl; brackets = refl; any_attribute = refl; any_type = refl }
 
-pub word_none : OneReading → (text : List ℕ) (tokens : List Token) (ws rest : List Word) (why : Cause) → Lexes text tokens None → ws ≡ words_of text (atoms_of text tokens) tokens → IsRefused anything forms_in ws rest why →
+pub word_none : OneReading → (text : List ℕ) (tokens : List Token) (ws rest : List Word) (why : Cause) → Lexes text tokens None → ws ≡ words_of text (atoms_of text tokens) tokens → IsRefused strict anything forms_in ws rest why →
     (m : Module) → Reads text m → ⊥
 word_none one text tokens ws rest why d w p m r =
     let same : r.tokens ≡ tokens = (one text r.tokens tokens None None r.lexes d).0 in
@@ -92,11 +94,12 @@ word_none one text tokens ws rest why d w p m r =
     let spelled : Spells strict (forms_in (forms_of m)) (p.front ++ rest) = subst P (sym w ∙ p.whole) (spells_other text tokens m r same) in
     p.stops strict (stops_strict why) (forms_of m) [] rest nothing_follows (same_head rest) spelled
 
-pub word_fault : (text : List ℕ) (tokens : List Token) (ws rest : List Word) (why : Cause) (place_is : Span) (fault : ReadFault) → length text ≤ longest_text → Lexes text tokens None → ws ≡ words_of text (atoms_of text tokens) tokens →
-    IsRefused anything forms_in ws rest why → place_is ≡ place_in (place text (length text)) rest → fault ≡ fault_at place_is (told why) → IsReadFault text fault
-word_fault text tokens ws rest why at fault h d w p l e =
-    let P : List Word → Type 0 = λ v. IsRefused anything forms_in v rest why in
-    of_word tokens rest why h d (subst P w p) (e ∙ ap (λ v. fault_at v (told why)) l)
+pub word_fault : (text : List ℕ) (tokens : List Token) (ws rest : List Word) (cause : ReadCause) (place_is : Span) (fault : ReadFault) → length text ≤ longest_text → Lexes text tokens None → ws ≡ words_of text (atoms_of text tokens) tokens →
+    (cause ≡ r.NoMemory) ⊎ IsTold ws rest cause → place_is ≡ place_in (place text (length text)) rest → fault ≡ fault_at place_is cause → IsReadFault text fault
+word_fault text tokens ws rest cause at fault h d w (inl m) l e = memory (ap (λ f. f.why) e ∙ m)
+word_fault text tokens ws rest cause at fault h d w (inr p) l e =
+    let P : List Word → Type 0 = λ v. IsTold v rest cause in
+    of_word tokens rest cause h d (subst P w p) (e ∙ ap (λ v. fault_at v cause) l)
 
 pub long_none : (text : List ℕ) → longest_text < length text → (m : Module) → Reads text m → ⊥
 long_none text h m r = let s : length text ≤ longest_text = r.short in omega (arith, h, s)
@@ -125,6 +128,13 @@ token_none one text first fault (inr d) e = inr (λ m r. some_no_none {x = first
 pub source_words : (text copy : List ℕ) (tokens : List Token) (numbered : List Numbered) (all : List Word) → all ≡ words copy numbered → copy ≡ text → words text numbered ≡ words_of text (atoms_of text tokens) tokens →
     all ≡ words_of text (atoms_of text tokens) tokens
 source_words text copy tokens numbered all e s w = e ∙ ap (λ t. words t numbered) s ∙ w
+
+-- what is read of a source with the limits of modules
+pub forms_strict : (s : Readable) (fs : ModuleForms) → s.limits ≡ strict → ReadsForms s (Ok fs) → Passes strict anything forms_in s.words nothing [] (λ u. fs)
+forms_strict s fs e g = let P : Limits → Type 0 = λ m. Passes m anything forms_in s.words nothing [] (λ u. fs) in subst P e g
+
+pub refused_strict : (s : Readable) (at : ℕ) (why : Cause) → s.limits ≡ strict → ReadsForms s (Err (Refused at why)) → IsRefused strict anything forms_in s.words (drop at s.words) why
+refused_strict s at why e g = let P : Limits → Type 0 = λ m. IsRefused m anything forms_in s.words (drop at s.words) why in subst P e g
 
 pub source_short : (text : List ℕ) (tokens : List Token) (all : List Word) (n : ℕ) → all ≡ words_of text (atoms_of text tokens) tokens → length tokens < n → length all < n
 source_short text tokens all n e h = let l : length all ≡ length tokens = ap length e ∙ length-map tokens (word_of text (atoms_of text tokens)) in omega (arith, l, h)

@@ -18,7 +18,7 @@ skips_forth : (l : Limits) (gs : List Goal) (j : Word) (w : List Word) → (j.ki
 skips_forth l gs j w n (expands _ end_skipped (takes t kk z)) = absurd (n kk)
 skips_forth l gs j w n (expands _ (skips t q0) (this z)) = z
 
-pub on_skips : (j : Word) (rest : List Word) → (j.kind ≡ k.FullStop → ⊥) → Passes {X = Unit {0}} {Y = Unit {0}} closed skipped_in (j ∷ rest) skipped_in rest (λ u. tt)
+pub on_skips : {most : Limits} (j : Word) (rest : List Word) → (j.kind ≡ k.FullStop → ⊥) → Passes most {X = Unit {0}} {Y = Unit {0}} closed skipped_in (j ∷ rest) skipped_in rest (λ u. tt)
 on_skips j rest n = record {
   front = j ∷ [];
   whole = refl;
@@ -30,7 +30,7 @@ stop_forth : (l : Limits) (gs : List Goal) (j : Word) (w : List Word) → j.kind
 stop_forth l gs j w h (expands _ end_skipped (takes t kk z)) = z
 stop_forth l gs j w h (expands _ (skips t q0) (this z)) = absurd (q0 h)
 
-pub on_stop : (j : Word) (rest : List Word) → j.kind ≡ k.FullStop → Passes {X = Unit {0}} {Y = Unit {0}} closed skipped_in (j ∷ rest) nothing rest (λ u. tt)
+pub on_stop : {most : Limits} (j : Word) (rest : List Word) → j.kind ≡ k.FullStop → Passes most {X = Unit {0}} {Y = Unit {0}} closed skipped_in (j ∷ rest) nothing rest (λ u. tt)
 on_stop j rest h = record {
   front = j ∷ [];
   whole = refl;
@@ -42,7 +42,7 @@ skipped_stops : (l : Limits) (gs : List Goal) (w : List Word) → SameHead w [] 
 skipped_stops l gs _ s (expands _ end_skipped (takes t kk z)) = s
 skipped_stops l gs _ s (expands _ (skips t q0) (this z)) = s
 
-pub skipped_refused : IsRefused {X = Unit {0}} closed skipped_in [] [] Syntax
+pub skipped_refused : {most : Limits} → IsRefused most {X = Unit {0}} closed skipped_in [] [] Syntax
 skipped_refused = record {
   front = [];
   whole = refl;
@@ -53,7 +53,7 @@ skipped_refused = record {
   excused = tt;
 }
 
-pub skipped_spelled : {Y : Type 0} (b : Y → List Goal) → Opens b → Opens {Y = Unit {0} × Y} (λ p. skipped_in p.0 ++ b p.1)
+pub skipped_spelled : {most : Limits} {Y : Type 0} (b : Y → List Goal) → Opens most b → Opens most {Y = Unit {0} × Y} (λ p. skipped_in p.0 ++ b p.1)
 skipped_spelled b o = record { tree = (tt, o.tree); words = mark_word k.FullStop ∷ o.words; spelled = λ l v gs w d. expands _ end_skipped (takes (mark_word k.FullStop) refl (o.spelled l v gs w d)) }
 
 -- ---- Names
@@ -74,7 +74,7 @@ name_words l t i gs w h e d =
 name_forth : (l : Limits) (n : Name) (gs : List Goal) (w : List Word) → Spells l (Of (AName n) ∷ gs) w → (p : Meaning × (Meaning × Unit {0})) × (n ≡ named_by p) × Spells l (name_left p ++ gs) w
 name_forth l n gs w (expands _ (name n_0 t i q0 q1 q2) z) = ((meaning t, (meaning i, tt)), q2, name_words l t i gs w q0 q1 z)
 
-pub on_name : (rest : List Word) → Passes {X = Name} {Y = Meaning × (Meaning × Unit {0})} closed name_in rest name_left rest named_by
+pub on_name : {most : Limits} (rest : List Word) → Passes most {X = Name} {Y = Meaning × (Meaning × Unit {0})} closed name_in rest name_left rest named_by
 on_name rest = record {
   front = [];
   whole = refl;
@@ -82,7 +82,7 @@ on_name rest = record {
   forth = λ l n gs w f s d. name_forth l n gs w d;
 }
 
-pub opens_nothing : Opens nothing
+pub opens_nothing : {most : Limits} → Opens most nothing
 opens_nothing = record { tree = tt; words = []; spelled = λ l v gs w d. d }
 
 -- names up to the bracket, behind the first one
@@ -102,7 +102,7 @@ none_forth l _ gs j w h (expands _ (names n ns) (expands _ (name n_0 t i q0 q1 q
     no_bracket : k.RightBracket ≡ k.Atom → ⊥
     no_bracket e = cc
 
-pub on_no_names : (j : Word) (rest : List Word) → j.kind ≡ k.RightBracket → Passes {X = List Name} {Y = Unit {0}} closed names_in (j ∷ rest) nothing rest (λ u. [])
+pub on_no_names : {most : Limits} (j : Word) (rest : List Word) → j.kind ≡ k.RightBracket → Passes most {X = List Name} {Y = Unit {0}} closed names_in (j ∷ rest) nothing rest (λ u. [])
 on_no_names j rest h = record {
   front = j ∷ [];
   whole = refl;
@@ -115,7 +115,7 @@ names_forth l _ gs rest w n s (expands _ (names a ns) z) = ((a, ns), refl, z)
 names_forth l _ gs _ w no_mark_end s (expands _ no_names (takes t kk z)) = absurd s
 names_forth l _ gs _ w (no_mark j rest n) s (expands _ no_names (takes t kk z)) = absurd (n (ap (λ v. v.kind) (sym s) ∙ kk))
 
-pub on_names : (rest : List Word) → NoMark k.RightBracket rest → Passes {X = List Name} {Y = Name × List Name} closed names_in rest name_and_more rest with_name
+pub on_names : {most : Limits} (rest : List Word) → NoMark k.RightBracket rest → Passes most {X = List Name} {Y = Name × List Name} closed names_in rest name_and_more rest with_name
 on_names rest n = record {
   front = [];
   whole = refl;
@@ -130,7 +130,7 @@ next_forth : (l : Limits) (ns : List Name) (gs : List Goal) (j : Word) (w : List
 next_forth l _ gs j w h (expands _ (more_names a ns) (takes t kk z)) = ((a, ns), refl, z)
 next_forth l _ gs j w h (expands _ end_names (takes t kk z)) = absurd (no_comma (sym h ∙ kk))
 
-pub on_next_name : (j : Word) (rest : List Word) → j.kind ≡ k.Comma → Passes {X = List Name} {Y = Name × List Name} closed more_names_in (j ∷ rest) name_and_more rest with_name
+pub on_next_name : {most : Limits} (j : Word) (rest : List Word) → j.kind ≡ k.Comma → Passes most {X = List Name} {Y = Name × List Name} closed more_names_in (j ∷ rest) name_and_more rest with_name
 on_next_name j rest h = record {
   front = j ∷ [];
   whole = refl;
@@ -142,7 +142,7 @@ last_forth : (l : Limits) (ns : List Name) (gs : List Goal) (j : Word) (w : List
 last_forth l _ gs j w h (expands _ (more_names a ns) (takes t kk z)) = absurd (no_comma (sym kk ∙ h))
 last_forth l _ gs j w h (expands _ end_names (takes t kk z)) = (refl, z)
 
-pub on_last_name : (j : Word) (rest : List Word) → j.kind ≡ k.RightBracket → Passes {X = List Name} {Y = Unit {0}} closed more_names_in (j ∷ rest) nothing rest (λ u. [])
+pub on_last_name : {most : Limits} (j : Word) (rest : List Word) → j.kind ≡ k.RightBracket → Passes most {X = List Name} {Y = Unit {0}} closed more_names_in (j ∷ rest) nothing rest (λ u. [])
 on_last_name j rest h = record {
   front = j ∷ [];
   whole = refl;
@@ -156,7 +156,7 @@ more_stops l _ gs _ w (no_mark j rest n) b s (expands _ (more_names a ns) (takes
 more_stops l _ gs _ w c no_mark_end s (expands _ end_names (takes t kk z)) = s
 more_stops l _ gs _ w c (no_mark j rest n) s (expands _ end_names (takes t kk z)) = n (ap (λ v. v.kind) (sym s) ∙ kk)
 
-pub no_more_names : (rest : List Word) → NoMark k.Comma rest → NoMark k.RightBracket rest → IsRefused {X = List Name} closed more_names_in rest rest Syntax
+pub no_more_names : {most : Limits} (rest : List Word) → NoMark k.Comma rest → NoMark k.RightBracket rest → IsRefused most {X = List Name} closed more_names_in rest rest Syntax
 no_more_names rest a b = record {
   front = [];
   whole = refl;
@@ -167,9 +167,9 @@ no_more_names rest a b = record {
   excused = tt;
 }
 
-pub more_names_spelled : Spelled {X = Name} {Y = List Name} (λ n. more_names_in) (mark_word k.RightBracket ∷ [])
+pub more_names_spelled : {most : Limits} → Spelled most {X = Name} {Y = List Name} (λ n. more_names_in) (mark_word k.RightBracket ∷ [])
 more_names_spelled = record { tree = λ n. []; spelled = λ l v n gs w d. expands _ end_names (takes (mark_word k.RightBracket) refl d) }
 
 -- names have the spelling `]`
-pub names_spelled : {Y : Type 0} (b : List Name → Y → List Goal) → Opens (b []) → Opens {Y = List Name × Y} (λ p. names_in p.0 ++ b p.0 p.1)
+pub names_spelled : {most : Limits} {Y : Type 0} (b : List Name → Y → List Goal) → Opens most (b []) → Opens most {Y = List Name × Y} (λ p. names_in p.0 ++ b p.0 p.1)
 names_spelled b o = record { tree = ([], o.tree); words = mark_word k.RightBracket ∷ o.words; spelled = λ l v gs w d. expands _ no_names (takes (mark_word k.RightBracket) refl (o.spelled l v gs w d)) }

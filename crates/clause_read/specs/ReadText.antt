@@ -1,7 +1,8 @@
 -- Why a text spells no module, and where.
-use Rattle.std.specs.Prelude.{◌≡◌, ℕ, ◌≤◌, ◌<◌, List, [], ◌∷◌, length, Some, None}
+use Rattle.std.specs.Prelude.{◌≡◌, ℕ, ◌≤◌, ◌<◌, List, [], ◌∷◌, length, Option, Some, None}
 use Rattle.erl_syntax.specs.Word.{Word}
 use Rattle.erl_syntax.specs.Tokens.{Lexes, place}
+use Rattle.erl_syntax.specs.Grammar.{strict}
 use Rattle.erl_syntax.specs.Reading.{longest_text, atoms_of, words_of}
 use Rattle.erl_syntax.specs.declared.span.Span.{Span}
 use Rattle.erl_syntax.specs.declared.token.Token.{Token}
@@ -21,13 +22,28 @@ abbrev pub place_in : Span → List Word → Span
 place_in last [] = last
 place_in last (w ∷ ws) = w.at
 
--- A refused token's cause as it is told. What the limits alone leave undecided is told as too deep.
-abbrev pub told : Cause → ReadCause
-told c.Syntax = r.Syntax
-told c.TooDeep = r.TooDeep
-told c.UnknownAttribute = r.UnknownAttribute
-told c.UnknownSegmentType = r.UnknownSegmentType
-told c.Undecided = r.TooDeep
+-- a refused token's cause as it is told: one that is decided
+abbrev pub told : Cause → Option ReadCause
+told c.Syntax = Some r.Syntax
+told c.TooDeep = Some r.TooDeep
+told c.UnknownAttribute = Some r.UnknownAttribute
+told c.UnknownSegmentType = Some r.UnknownSegmentType
+told c.Undecided = None
+
+-- causes in which the limits on depth play no part
+abbrev pub IsDecided : Cause → Type 0
+IsDecided c.Syntax = Unit {0}
+IsDecided c.TooDeep = ⊥
+IsDecided c.UnknownAttribute = Unit {0}
+IsDecided c.UnknownSegmentType = Unit {0}
+IsDecided c.Undecided = ⊥
+
+-- The words up to `rest` begin a module within the limits of modules, and with the first of `rest`, or the end, no module
+-- goes on, for the cause that is told.
+pub record IsTold (all rest : List Word) (cause : ReadCause) : Type 0 where
+  pub why : Cause
+  pub is : told why ≡ Some cause
+  pub refused : IsRefused strict anything forms_in all rest why
 
 -- a fault of tokens, and want of memory
 abbrev pub told_of_token : LexCause → ReadCause
@@ -43,5 +59,5 @@ pub data IsReadFault (text : List ℕ) (fault : ReadFault) : Type 0 where
   memory : fault.why ≡ r.NoMemory → IsReadFault text fault
   too_long : longest_text < length text → fault ≡ fault_at (record { line = 1; column = 1 }) r.TextTooLong → IsReadFault text fault
   of_token : (tokens : List Token) (first : LexFault) → length text ≤ longest_text → Lexes text tokens (Some first) → fault ≡ fault_at first.at (r.Token first.why) → IsReadFault text fault
-  of_word : (tokens : List Token) (rest : List Word) (why : Cause) → length text ≤ longest_text → Lexes text tokens None →
-      IsRefused anything forms_in (words_of text (atoms_of text tokens) tokens) rest why → fault ≡ fault_at (place_in (place text (length text)) rest) (told why) → IsReadFault text fault
+  of_word : (tokens : List Token) (rest : List Word) (cause : ReadCause) → length text ≤ longest_text → Lexes text tokens None →
+      IsTold (words_of text (atoms_of text tokens) tokens) rest cause → fault ≡ fault_at (place_in (place text (length text)) rest) cause → IsReadFault text fault

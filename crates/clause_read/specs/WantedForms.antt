@@ -23,7 +23,7 @@ use Rattle.clause_read.specs.declared.forms.Collected.{Collected}
 use Rattle.pattern_read.specs.declared.fault.Cause.TheVariants.{Syntax}
 use Rattle.pattern_read.specs.declared.source.Numbered.{Numbered}
 use Rattle.pattern_read.specs.Reading.{Passes, IsRefused, nothing}
-use Rattle.pattern_read.specs.Source.{StandsAt}
+use Rattle.pattern_read.specs.Source.{Readable, StandsAt}
 use Rattle.pattern_read.specs.Wanted.{NoMark}
 
 -- what ends only with the text could go on with any token
@@ -61,10 +61,10 @@ abbrev pub with_function : Function → ModuleForms → ModuleForms
 with_function f r = record { heads = r.heads; exports = r.exports; functions = f ∷ r.functions }
 
 -- What a reader of one form answers at its place: what the form adds and the place behind it, or the place of the refused token.
-abbrev pub Adds : {X : Type 0} → (X → ModuleForms → ModuleForms) → List Word → ℕ → Result (X × ℕ) Fault → Type 0
-Adds add words at (Ok r) = Passes anything forms_in (drop at words) forms_in (drop r.1 words) (add r.0)
-Adds add words at (Err Memory) = Unit {0}
-Adds add words at (Err (Refused n why)) = IsRefused anything forms_in (drop at words) (drop n words) why
+abbrev pub Adds : {X : Type 0} → (X → ModuleForms → ModuleForms) → Readable → ℕ → Result (X × ℕ) Fault → Type 0
+Adds add ws at (Ok r) = Passes ws.limits anything forms_in (drop at ws.words) forms_in (drop r.1 ws.words) (add r.0)
+Adds add ws at (Err Memory) = Unit {0}
+Adds add ws at (Err (Refused n why)) = IsRefused ws.limits anything forms_in (drop at ws.words) (drop n ws.words) why
 
 -- the characters are those of such an attribute
 abbrev pub Means : Attribute → List ℕ → Type 0
@@ -73,25 +73,25 @@ Means a.Export chars = chars ≡ export_word
 Means a.Skipped chars = Contains skipped_words chars
 
 -- a form of such an attribute begins there
-pub record AttributeAt (all : List Word) (at : ℕ) (attribute : Attribute) : Type 0 where
+pub record AttributeAt (ws : Readable) (at : ℕ) (attribute : Attribute) : Type 0 where
   pub minus : Word
   pub name : Word
-  pub is : drop at all ≡ minus ∷ name ∷ drop (at + 2) all
+  pub is : drop at ws.words ≡ minus ∷ name ∷ drop (at + 2) ws.words
   pub kind : minus.kind ≡ k.Minus
   pub atom : name.kind ≡ k.Atom
   pub means : Means attribute name.chars
 
 -- what a reader says of the attribute with which a form begins
-abbrev pub BeginsForm : List Word → ℕ → Result Attribute Fault → Type 0
-BeginsForm words at (Ok attribute) = AttributeAt words at attribute
-BeginsForm words at (Err Memory) = Unit {0}
-BeginsForm words at (Err (Refused n why)) = IsRefused anything forms_in (drop at words) (drop n words) why
+abbrev pub BeginsForm : Readable → ℕ → Result Attribute Fault → Type 0
+BeginsForm ws at (Ok attribute) = AttributeAt ws at attribute
+BeginsForm ws at (Err Memory) = Unit {0}
+BeginsForm ws at (Err (Refused n why)) = IsRefused ws.limits anything forms_in (drop at ws.words) (drop n ws.words) why
 
 -- What a reader of one token of a kind says: it stands there, or none does.
-abbrev pub TokenOf : List Word → ℕ → TokenKind → Result Numbered Fault → Type 0
-TokenOf words at kind (Ok n) = StandsAt words at n × (n.token.kind ≡ kind)
-TokenOf words at kind (Err Memory) = ⊥
-TokenOf words at kind (Err (Refused n why)) = (n ≡ at) × (why ≡ Syntax) × NoMark kind (drop at words)
+abbrev pub TokenOf : Readable → ℕ → TokenKind → Result Numbered Fault → Type 0
+TokenOf ws at kind (Ok n) = StandsAt ws at n × (n.token.kind ≡ kind)
+TokenOf ws at kind (Err Memory) = ⊥
+TokenOf ws at kind (Err (Refused n why)) = (n ≡ at) × (why ≡ Syntax) × NoMark kind (drop at ws.words)
 
 -- an answer with the items of a vector
 abbrev pub listed : {X : Type 0} → Result (Vec X Global × ℕ) Fault → Result (List X × ℕ) Fault
@@ -110,7 +110,7 @@ abbrev pub collected_before : Collected → ModuleForms → ModuleForms
 collected_before all r = record { heads = all.heads.items ++ r.heads; exports = all.exports.items ++ r.exports; functions = all.functions.items ++ r.functions }
 
 -- What a reader of all forms answers: what they hold, or the place of the first token with which no forms go on.
-abbrev pub ReadsForms : List Word → Result ModuleForms Fault → Type 0
-ReadsForms words (Ok r) = Passes anything forms_in words nothing [] (λ u. r)
-ReadsForms words (Err Memory) = Unit {0}
-ReadsForms words (Err (Refused n why)) = IsRefused anything forms_in words (drop n words) why
+abbrev pub ReadsForms : Readable → Result ModuleForms Fault → Type 0
+ReadsForms ws (Ok r) = Passes ws.limits anything forms_in ws.words nothing [] (λ u. r)
+ReadsForms ws (Err Memory) = Unit {0}
+ReadsForms ws (Err (Refused n why)) = IsRefused ws.limits anything forms_in ws.words (drop n ws.words) why

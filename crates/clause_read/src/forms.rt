@@ -105,10 +105,10 @@ fn attribute_named(characters: &[u8]) -> Option<Attribute>
 /// The attribute of a form that begins with `-`.
 fn attribute_at(alloc: Global, source: &Source, at: usize) -> Result<Attribute, Fault>
     requires begins { IsAt source.now at k.Minus }
-    requires place { at < length source.now }
-    requires short { length source.now < 2 ^ 64 }
+    requires place { at < length source.now.words }
+    requires short { length source.now.words < 2 ^ 64 }
     ensures attribute { BeginsForm source.now at result }
-    ensures within { OnOk result (at + 2 ≤ length source.now) }
+    ensures within { OnOk result (at + 2 ≤ length source.now.words) }
 {
     if !source.is(at + 1, TokenKind::Atom) {
         return Err(Fault::Refused(at + 1, Cause::Syntax));
@@ -122,9 +122,9 @@ fn attribute_at(alloc: Global, source: &Source, at: usize) -> Result<Attribute, 
 
 /// The rest of a form that has no effect.
 fn skipped(source: &Source, at: usize) -> Result<((), usize), Fault>
-    requires place { at ≤ length source.now }
+    requires place { at ≤ length source.now.words }
     ensures reads { Gives closed skipped_in source.now at result }
-    ensures further { IfOk result (λ r. at < r.1 × (r.1 ≤ length source.now)) }
+    ensures further { IfOk result (λ r. at < r.1 × (r.1 ≤ length source.now.words)) }
 {
     let mut next = at;
     while let Some(numbered) = source.token(next) {
@@ -150,10 +150,10 @@ fn named(atom: Numbered, arity: Numbered) -> Name
 
 /// A token of that kind.
 fn token_of(source: &Source, at: usize, kind: TokenKind) -> Result<Numbered, Fault>
-    requires { at ≤ length source.now }
+    requires { at ≤ length source.now.words }
     ensures token { TokenOf source.now at kind result }
-    ensures within { IfOk result (λ n. (n.value < 2 ^ 127) × (at < length source.now)) }
-    ensures short { length source.now < 2 ^ 64 }
+    ensures within { IfOk result (λ n. (n.value < 2 ^ 127) × (at < length source.now.words)) }
+    ensures short { length source.now.words < 2 ^ 64 }
 {
     let Some(numbered) = source.token(at) else {
         return Err(Fault::Refused(at, Cause::Syntax));
@@ -167,9 +167,9 @@ fn token_of(source: &Source, at: usize, kind: TokenKind) -> Result<Numbered, Fau
 
 /// A name with its number of arguments.
 fn name(source: &Source, at: usize) -> Result<(Name, usize), Fault>
-    requires place { at ≤ length source.now }
+    requires place { at ≤ length source.now.words }
     ensures reads { Gives closed name_in source.now at result }
-    ensures further { IfOk result (λ r. at < r.1 × (r.1 ≤ length source.now)) }
+    ensures further { IfOk result (λ r. at < r.1 × (r.1 ≤ length source.now.words)) }
 {
     let atom = token_of(source, at, TokenKind::Atom)?;
     token_of(source, at + 1, TokenKind::Slash)?;
@@ -179,9 +179,9 @@ fn name(source: &Source, at: usize) -> Result<(Name, usize), Fault>
 
 /// Names up to the closing bracket.
 fn names(alloc: Global, source: &Source, at: usize) -> Result<(Vec<Name>, usize), Fault>
-    requires place { at ≤ length source.now }
+    requires place { at ≤ length source.now.words }
     ensures reads { Gives closed names_in source.now at (listed result) }
-    ensures further { IfOk result (λ r. at < r.1 × (r.1 ≤ length source.now)) }
+    ensures further { IfOk result (λ r. at < r.1 × (r.1 ≤ length source.now.words)) }
 {
     let mut names = Vec::new(alloc);
     if source.is(at, TokenKind::RightBracket) {
@@ -204,10 +204,10 @@ fn names(alloc: Global, source: &Source, at: usize) -> Result<(Vec<Name>, usize)
 /// A `-module` form.
 fn module_form(source: &Source, at: usize) -> Result<(Head, usize), Fault>
     requires begins { AttributeAt source.now at a.Module }
-    requires place { at + 2 ≤ length source.now }
-    requires short { length source.now < 2 ^ 64 }
+    requires place { at + 2 ≤ length source.now.words }
+    requires short { length source.now.words < 2 ^ 64 }
     ensures reads { Adds with_head source.now at result }
-    ensures further { IfOk result (λ r. at < r.1 × (r.1 ≤ length source.now)) }
+    ensures further { IfOk result (λ r. at < r.1 × (r.1 ≤ length source.now.words)) }
 {
     let minus = token_of(source, at, TokenKind::Minus)?;
     token_of(source, at + 2, TokenKind::LeftParen)?;
@@ -224,10 +224,10 @@ fn module_form(source: &Source, at: usize) -> Result<(Head, usize), Fault>
 /// An `-export` form.
 fn export_form(alloc: Global, source: &Source, at: usize) -> Result<(Vec<Name>, usize), Fault>
     requires begins { AttributeAt source.now at a.Export }
-    requires place { at + 2 ≤ length source.now }
-    requires short { length source.now < 2 ^ 64 }
+    requires place { at + 2 ≤ length source.now.words }
+    requires short { length source.now.words < 2 ^ 64 }
     ensures reads { Adds with_exports source.now at (listed result) }
-    ensures further { IfOk result (λ r. at < r.1 × (r.1 ≤ length source.now)) }
+    ensures further { IfOk result (λ r. at < r.1 × (r.1 ≤ length source.now.words)) }
 {
     token_of(source, at + 2, TokenKind::LeftParen)?;
     token_of(source, at + 3, TokenKind::LeftBracket)?;
@@ -240,20 +240,22 @@ fn export_form(alloc: Global, source: &Source, at: usize) -> Result<(Vec<Name>, 
 /// A form that has no effect.
 fn skipped_form(source: &Source, at: usize) -> Result<((), usize), Fault>
     requires begins { AttributeAt source.now at a.Skipped }
-    requires place { at + 2 ≤ length source.now }
-    requires short { length source.now < 2 ^ 64 }
+    requires place { at + 2 ≤ length source.now.words }
+    requires short { length source.now.words < 2 ^ 64 }
     ensures reads { Adds with_skipped source.now at result }
-    ensures further { IfOk result (λ r. at < r.1 × (r.1 ≤ length source.now)) }
+    ensures further { IfOk result (λ r. at < r.1 × (r.1 ≤ length source.now.words)) }
 {
     skipped(source, at + 2)
 }
 
 /// A clause of a function.
 fn clause(alloc: Global, source: &Source, at: usize) -> Result<(Clause, usize), Fault>
-    requires place { at ≤ length source.now }
+    requires place { at ≤ length source.now.words }
+    requires trees { 1 ≤ source.now.limits.trees }
+    requires brackets { 1 ≤ source.now.limits.brackets }
     ensures reads { Gives body_longer clause_in source.now at result }
-    ensures further { IfOk result (λ r. at < r.1 × (r.1 ≤ length source.now)) }
-    ensures few { IfOk result (λ r. length r.0.patterns ≤ length source.now) }
+    ensures further { IfOk result (λ r. at < r.1 × (r.1 ≤ length source.now.words)) }
+    ensures few { IfOk result (λ r. length r.0.patterns ≤ length source.now.words) }
 {
     let name = token_of(source, at, TokenKind::Atom)?;
     token_of(source, at + 1, TokenKind::LeftParen)?;
@@ -272,11 +274,13 @@ fn clause(alloc: Global, source: &Source, at: usize) -> Result<(Clause, usize), 
 
 /// The clauses of a function, up to the full stop.
 fn function(alloc: Global, source: &Source, at: usize) -> Result<(Function, usize), Fault>
-    requires other { NoMark k.Minus (drop at source.now) }
-    requires place { at < length source.now }
-    requires short { length source.now < 2 ^ 32 }
+    requires other { NoMark k.Minus (drop at source.now.words) }
+    requires place { at < length source.now.words }
+    requires short { length source.now.words < 2 ^ 32 }
+    requires trees { 1 ≤ source.now.limits.trees }
+    requires brackets { 1 ≤ source.now.limits.brackets }
     ensures reads { Adds with_function source.now at result }
-    ensures further { IfOk result (λ r. at < r.1 × (r.1 ≤ length source.now)) }
+    ensures further { IfOk result (λ r. at < r.1 × (r.1 ≤ length source.now.words)) }
 {
     let (first, after) = clause(alloc, source, at)?;
     let name = first.name;
@@ -305,10 +309,12 @@ fn function(alloc: Global, source: &Source, at: usize) -> Result<(Function, usiz
 
 /// One form.
 fn read_form(alloc: Global, source: &Source, at: usize) -> Result<(Form, usize), Fault>
-    requires place { at < length source.now }
-    requires short { length source.now < 2 ^ 32 }
+    requires place { at < length source.now.words }
+    requires short { length source.now.words < 2 ^ 32 }
+    requires trees { 1 ≤ source.now.limits.trees }
+    requires brackets { 1 ≤ source.now.limits.brackets }
     ensures reads { Adds with_form source.now at result }
-    ensures further { IfOk result (λ r. at < r.1 × (r.1 ≤ length source.now)) }
+    ensures further { IfOk result (λ r. at < r.1 × (r.1 ≤ length source.now.words)) }
 {
     if !source.is(at, TokenKind::Minus) {
         let (one, next) = function(alloc, source, at)?;
@@ -332,7 +338,9 @@ fn read_form(alloc: Global, source: &Source, at: usize) -> Result<(Form, usize),
 
 /// The forms of a text.
 pub fn read_forms(alloc: Global, source: &Source) -> Result<ModuleForms, Fault>
-    requires { length source.now < 2 ^ 32 }
+    requires short { length source.now.words < 2 ^ 32 }
+    requires trees { 1 ≤ source.now.limits.trees }
+    requires brackets { 1 ≤ source.now.limits.brackets }
     ensures { ReadsForms source.now result }
 {
     let mut collected = Collected {

@@ -4,6 +4,7 @@
 mod forms;
 mod numbering;
 mod read;
+mod second;
 
 pub use numbering::atoms_stand_once;
 pub use read::{ReadCause, ReadFault, read_module};

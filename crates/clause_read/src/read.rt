@@ -3,14 +3,15 @@ ghost use Rattle.erl_syntax.specs.Reading.{Reads, words_of};
 ghost use Rattle.erl_syntax.specs.Tokens.{after, place};
 ghost use Rattle.erl_syntax.specs.Characters.{is_continuation};
 ghost use Rattle.erl_syntax.specs.declared.module.Module.{Module};
-ghost use Rattle.clause_read.specs.ReadText.{IsReadFault, fault_at, place_in, told};
+ghost use Rattle.clause_read.specs.ReadText.{IsReadFault, fault_at, place_in};
 ghost use Rattle.clause_read.specs.declared.read.ReadCause.TheVariants.{NoMemory};
 
 use crate::forms::{ModuleForms, read_forms};
 use crate::numbering::number;
+use crate::second::told_of;
 use erl_syntax::{LexCause, LexFault, Listed, Module, Span, Text, Token};
 use erl_tokens::{longest_token, one_reading, tokens};
-use pattern_read::fault::{Cause, Fault};
+use pattern_read::fault::Fault;
 use pattern_read::source::Source;
 use std::alloc::{AllocError, Global};
 use thiserror::Error;
@@ -83,18 +84,6 @@ impl From<AllocError> for ReadFault {
             column: 1,
             why: ReadCause::NoMemory,
         }
-    }
-}
-
-/// A refused token's cause as it is told.
-fn told(cause: Cause) -> ReadCause
-    ensures { result ≡ told cause }
-{
-    match cause {
-        Cause::Syntax => ReadCause::Syntax,
-        Cause::TooDeep | Cause::Undecided => ReadCause::TooDeep,
-        Cause::UnknownAttribute => ReadCause::UnknownAttribute,
-        Cause::UnknownSegmentType => ReadCause::UnknownSegmentType,
     }
 }
 
@@ -198,7 +187,7 @@ pub fn read_module(alloc: Global, text: &[u8]) -> Result<Module, ReadFault>
         Err(Fault::Memory) => Err(fault_at(Span { line: 1, column: 1 }, ReadCause::NoMemory)),
         Err(Fault::Refused(at, why)) => {
             let place = place_of(found.as_slice(), at, last);
-            Err(fault_at(place, told(why)))
+            Err(fault_at(place, told_of(alloc, source, at, why, found.len())))
         }
     }
 }

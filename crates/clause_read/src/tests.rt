@@ -91,3 +91,27 @@ fn forms_are_refused_at_their_first_wrong_token(rt: HostRuntime) -> Result<(), F
     }
     Ok(())
 }
+
+#[test]
+fn a_token_behind_a_reading_cut_off_by_the_limits_has_its_own_cause(
+    rt: HostRuntime,
+) -> Result<(), Fail> {
+    let alloc = rt.alloc();
+    let rows = [
+        ("case 1 of 1 -> -1 ) end.", "1:537: syntax"),
+        ("case 1 of 1 -> -1, 2 end.", "1:536: too deep"),
+        ("case 1 of 1 -> -1", "1:536: syntax"),
+        ("[1 || -1 )].", "1:528: syntax"),
+        ("[1 || -1].", "1:527: too deep"),
+    ];
+    for (rest, wanted) in rows {
+        let mut text = String::from_str(alloc, "main() -> ")?;
+        for _ in 0..254 {
+            text.push_str("- ")?;
+        }
+        text.push_str(rest)?;
+        let fault = told(alloc, text.as_bytes())?;
+        assert_eq!(rt; fault.as_str(), wanted);
+    }
+    Ok(())
+}

@@ -74,8 +74,8 @@ call_forth l c at n e d gs j w h f (expands _ (call c_0 at_0 n_0 e_0 d_0 ys dys 
 call_forth l c at n e d gs j w h f (expands _ (no_call c_0 at_0 n_0 e_0 d_0) (expands _ (unqualified c_1 at_1 y_1 e_1 d_1 q0 q1) z)) = absurd (f j w (ap calls h) z)
 call_forth l c at n e d gs j w h f (expands _ (no_call c_0 at_0 n_0 e_0 d_0) (expands _ (qualified c_1 at_1 y_1 e_1 d_1 t_1 ys_1 dys_1 q0 q1 q2 q3 q4) (takes t kk z))) = cc
 
-pub on_call : (c : Context) (at : Span) (n : ℕ) (j : Word) (rest : List Word) → j.kind ≡ k.LeftParen → c.open_ < 64 →
-    Passes {X = Expr × ℕ} {Y = List Expr × ℕ} calls (after_atom_in c at n) (j ∷ rest) (exprs_in k.RightParen (inside (under c))) rest (λ r. (x.Call at [] n r.0, r.1 + 1))
+pub on_call : {most : Limits} (c : Context) (at : Span) (n : ℕ) (j : Word) (rest : List Word) → j.kind ≡ k.LeftParen → c.open_ < most.brackets →
+    Passes most {X = Expr × ℕ} {Y = List Expr × ℕ} calls (after_atom_in c at n) (j ∷ rest) (exprs_in k.RightParen (inside (under c))) rest (λ r. (x.Call at [] n r.0, r.1 + 1))
 on_call c at n j rest h b = record {
   front = j ∷ [];
   whole = refl;
@@ -83,21 +83,21 @@ on_call c at n j rest h b = record {
   forth = λ l r gs w f s d. let m = call_forth l c at n r.0 r.1 gs j w h f d in (m.1, same_pair m.2 m.3, m.4);
 }
 
-stops_call : (c : Context) (at : Span) (n : ℕ) (j : Word) (rest : List Word) → j.kind ≡ k.LeftParen → 64 ≤ c.open_ → (l : Limits) → l.brackets ≡ 64 → (r : Expr × ℕ) (gs : List Goal) (w : List Word) → Follows l calls gs → SameHead w (j ∷ rest) → Spells l (after_atom_in c at n r ++ gs) w → ⊥
-stops_call c at n j rest h b l i r gs [] f s d = s
-stops_call c at n j rest h b l i r gs (t ∷ w) f s d = let m = call_forth l c at n r.0 r.1 gs t w (ap (λ v. v.kind) s ∙ h) f d in let a : c.open_ < l.brackets = m.0 in omega arith
+stops_call : (most : Limits) (c : Context) (at : Span) (n : ℕ) (j : Word) (rest : List Word) → j.kind ≡ k.LeftParen → most.brackets ≤ c.open_ → (l : Limits) → l.brackets ≡ most.brackets → (r : Expr × ℕ) (gs : List Goal) (w : List Word) → Follows l calls gs → SameHead w (j ∷ rest) → Spells l (after_atom_in c at n r ++ gs) w → ⊥
+stops_call most c at n j rest h b l i r gs [] f s d = s
+stops_call most c at n j rest h b l i r gs (t ∷ w) f s d = let m = call_forth l c at n r.0 r.1 gs t w (ap (λ v. v.kind) s ∙ h) f d in let a : c.open_ < l.brackets = m.0 in omega arith
 
-pub call_too_deep : (c : Context) (at : Span) (n : ℕ) (j : Word) (rest : List Word) → j.kind ≡ k.LeftParen → 64 ≤ c.open_ → IsRefused {X = Expr × ℕ} calls (after_atom_in c at n) (j ∷ rest) (j ∷ rest) TooDeep
-call_too_deep c at n j rest h b = record {
+pub call_too_deep : {most : Limits} (c : Context) (at : Span) (n : ℕ) (j : Word) (rest : List Word) → j.kind ≡ k.LeftParen → most.brackets ≤ c.open_ → IsRefused most {X = Expr × ℕ} calls (after_atom_in c at n) (j ∷ rest) (j ∷ rest) TooDeep
+call_too_deep {most = most} c at n j rest h b = record {
   front = [];
   whole = refl;
   tree = (x.Atom at n, 1);
   more = [];
   goes_on = λ l v gs w d. expands _ (no_call c at n _ _) (expands _ (unqualified c at _ _ _ refl refl) d);
-  stops = λ l i r gs w f s d. stops_call c at n j rest h b l i.brackets r gs w f s d;
+  stops = λ l i r gs w f s d. stops_call most c at n j rest h b l i.brackets r gs w f s d;
   excused = record {
-    limits = deeper 0 (c.open_ + 1);
-    wide = deeper_wide 0 (c.open_ + 1);
+    limits = deeper most 0 (c.open_ + 1);
+    wide = deeper_wide most 0 (c.open_ + 1);
     allows = (refl, refl);
     first = j;
     behind = rest;
@@ -113,7 +113,7 @@ no_call_forth l c at n e d gs rest w b s (expands _ (no_call c_0 at_0 n_0 e_0 d_
 no_call_forth l c at n e d gs _ w no_mark_end s (expands _ (call c_0 at_0 n_0 e_0 d_0 ys dys q0 q1 q2) (takes t kk z)) = absurd s
 no_call_forth l c at n e d gs _ w (no_mark j rest b) s (expands _ (call c_0 at_0 n_0 e_0 d_0 ys dys q0 q1 q2) (takes t kk z)) = absurd (b (ap (λ v. v.kind) (sym s) ∙ kk))
 
-pub on_no_call : (c : Context) (at : Span) (n : ℕ) (rest : List Word) → NoMark k.LeftParen rest → Passes {X = Expr × ℕ} {Y = Expr × ℕ} calls (after_atom_in c at n) rest (qualified_in c at (x.Atom at n)) rest (λ r. r)
+pub on_no_call : {most : Limits} (c : Context) (at : Span) (n : ℕ) (rest : List Word) → NoMark k.LeftParen rest → Passes most {X = Expr × ℕ} {Y = Expr × ℕ} calls (after_atom_in c at n) rest (qualified_in c at (x.Atom at n)) rest (λ r. r)
 on_no_call c at n rest b = record {
   front = [];
   whole = refl;
@@ -128,7 +128,7 @@ unqualified_forth l c at y e d gs rest w b s (expands _ (unqualified c_1 at_1 y_
 unqualified_forth l c at y e d gs _ w no_mark_end s (expands _ (qualified c_1 at_1 y_1 e_1 d_1 t_1 ys_1 dys_1 q0 q1 q2 q3 q4) (takes t kk z)) = absurd s
 unqualified_forth l c at y e d gs _ w (no_mark j rest b) s (expands _ (qualified c_1 at_1 y_1 e_1 d_1 t_1 ys_1 dys_1 q0 q1 q2 q3 q4) (takes t kk z)) = absurd (b (ap (λ v. v.kind) (sym s) ∙ kk))
 
-pub on_unqualified : (c : Context) (at : Span) (y : Expr) (rest : List Word) → NoMark k.Colon rest → Passes {X = Expr × ℕ} calls (qualified_in c at y) rest nothing rest (λ u. (y, 1))
+pub on_unqualified : {most : Limits} (c : Context) (at : Span) (y : Expr) (rest : List Word) → NoMark k.Colon rest → Passes most {X = Expr × ℕ} calls (qualified_in c at y) rest nothing rest (λ u. (y, 1))
 on_unqualified c at y rest b = record {
   front = [];
   whole = refl;
@@ -165,8 +165,8 @@ qualified_forth l c at y e d gs j t p w h f z =
     let b = takes_it a.1 in
     (m.args, m.tree ∙ ap (λ v. x.Call at (y ∷ []) v.number m.args.0) a.0, m.height, b.1)
 
-pub on_qualified : (c : Context) (at : Span) (y : Expr) (j t p : Word) (rest : List Word) → j.kind ≡ k.Colon → t.kind ≡ k.Atom → p.kind ≡ k.LeftParen → c.open_ < 64 → c.deep + 1 ≤ 256 →
-    Passes {X = Expr × ℕ} {Y = List Expr × ℕ} calls (qualified_in c at y) (j ∷ (t ∷ (p ∷ rest))) (exprs_in k.RightParen (inside (under c))) rest (λ r. (x.Call at (y ∷ []) t.number r.0, max 1 r.1 + 1))
+pub on_qualified : {most : Limits} (c : Context) (at : Span) (y : Expr) (j t p : Word) (rest : List Word) → j.kind ≡ k.Colon → t.kind ≡ k.Atom → p.kind ≡ k.LeftParen → c.open_ < most.brackets → c.deep + 1 ≤ most.trees →
+    Passes most {X = Expr × ℕ} {Y = List Expr × ℕ} calls (qualified_in c at y) (j ∷ (t ∷ (p ∷ rest))) (exprs_in k.RightParen (inside (under c))) rest (λ r. (x.Call at (y ∷ []) t.number r.0, max 1 r.1 + 1))
 on_qualified c at y j t p rest h i n b a = record {
   front = j ∷ (t ∷ (p ∷ []));
   whole = refl;
@@ -186,7 +186,7 @@ mark_stops_ _ w no_mark_end s (takes t h z) = s
 mark_stops_ _ w (no_mark j rest n) s (takes t h z) = n (ap (λ v. v.kind) (sym s) ∙ h)
 
 -- no atom behind `:`
-pub name_refused : (c : Context) (at : Span) (y : Expr) (j : Word) (rest : List Word) → j.kind ≡ k.Colon → c.open_ < 64 → c.deep + 1 ≤ 256 → NoMark k.Atom rest → IsRefused {X = Expr × ℕ} calls (qualified_in c at y) (j ∷ rest) rest Syntax
+pub name_refused : {most : Limits} (c : Context) (at : Span) (y : Expr) (j : Word) (rest : List Word) → j.kind ≡ k.Colon → c.open_ < most.brackets → c.deep + 1 ≤ most.trees → NoMark k.Atom rest → IsRefused most {X = Expr × ℕ} calls (qualified_in c at y) (j ∷ rest) rest Syntax
 name_refused c at y j rest h b a n = record {
   front = j ∷ [];
   whole = refl;
@@ -199,7 +199,7 @@ name_refused c at y j rest h b a n = record {
 }
 
 -- no `(` behind the name
-pub open_refused : (c : Context) (at : Span) (y : Expr) (j t : Word) (rest : List Word) → j.kind ≡ k.Colon → t.kind ≡ k.Atom → c.open_ < 64 → c.deep + 1 ≤ 256 → NoMark k.LeftParen rest → IsRefused {X = Expr × ℕ} calls (qualified_in c at y) (j ∷ (t ∷ rest)) rest Syntax
+pub open_refused : {most : Limits} (c : Context) (at : Span) (y : Expr) (j t : Word) (rest : List Word) → j.kind ≡ k.Colon → t.kind ≡ k.Atom → c.open_ < most.brackets → c.deep + 1 ≤ most.trees → NoMark k.LeftParen rest → IsRefused most {X = Expr × ℕ} calls (qualified_in c at y) (j ∷ (t ∷ rest)) rest Syntax
 open_refused c at y j t rest h e b a n = record {
   front = j ∷ (t ∷ []);
   whole = refl;
@@ -211,22 +211,22 @@ open_refused c at y j t rest h e b a n = record {
   excused = tt;
 }
 
-stops_remote : (c : Context) (at : Span) (y : Expr) (j : Word) (rest : List Word) → j.kind ≡ k.Colon → (64 ≤ c.open_ ⊎ 256 < c.deep + 1) → (l : Limits) → l.trees ≡ 256 → l.brackets ≡ 64 → (r : Expr × ℕ) (gs : List Goal) (w : List Word) → Follows l calls gs → SameHead w (j ∷ rest) → Spells l (qualified_in c at y r ++ gs) w → ⊥
-stops_remote c at y j rest h b l i n r gs [] f s d = s
-stops_remote c at y j rest h (inl b) l i n r gs (t ∷ w) f s d = let m = remote l c at y r.0 r.1 gs t w (ap (λ v. v.kind) s ∙ h) f d in let a : c.open_ < l.brackets = m.room in omega arith
-stops_remote c at y j rest h (inr b) l i n r gs (t ∷ w) f s d = let m = remote l c at y r.0 r.1 gs t w (ap (λ v. v.kind) s ∙ h) f d in let a : c.deep + 1 ≤ l.trees = m.deep in omega arith
+stops_remote : (most : Limits) (c : Context) (at : Span) (y : Expr) (j : Word) (rest : List Word) → j.kind ≡ k.Colon → (most.brackets ≤ c.open_ ⊎ most.trees < c.deep + 1) → (l : Limits) → l.trees ≡ most.trees → l.brackets ≡ most.brackets → (r : Expr × ℕ) (gs : List Goal) (w : List Word) → Follows l calls gs → SameHead w (j ∷ rest) → Spells l (qualified_in c at y r ++ gs) w → ⊥
+stops_remote most c at y j rest h b l i n r gs [] f s d = s
+stops_remote most c at y j rest h (inl b) l i n r gs (t ∷ w) f s d = let m = remote l c at y r.0 r.1 gs t w (ap (λ v. v.kind) s ∙ h) f d in let a : c.open_ < l.brackets = m.room in omega arith
+stops_remote most c at y j rest h (inr b) l i n r gs (t ∷ w) f s d = let m = remote l c at y r.0 r.1 gs t w (ap (λ v. v.kind) s ∙ h) f d in let a : c.deep + 1 ≤ l.trees = m.deep in omega arith
 
-pub remote_too_deep : (c : Context) (at : Span) (y : Expr) (j : Word) (rest : List Word) → j.kind ≡ k.Colon → (64 ≤ c.open_ ⊎ 256 < c.deep + 1) → IsRefused {X = Expr × ℕ} calls (qualified_in c at y) (j ∷ rest) (j ∷ rest) TooDeep
-remote_too_deep c at y j rest h b = record {
+pub remote_too_deep : {most : Limits} (c : Context) (at : Span) (y : Expr) (j : Word) (rest : List Word) → j.kind ≡ k.Colon → (most.brackets ≤ c.open_ ⊎ most.trees < c.deep + 1) → IsRefused most {X = Expr × ℕ} calls (qualified_in c at y) (j ∷ rest) (j ∷ rest) TooDeep
+remote_too_deep {most = most} c at y j rest h b = record {
   front = [];
   whole = refl;
   tree = (y, 1);
   more = [];
   goes_on = λ l v gs w d. expands _ (unqualified c at _ _ _ refl refl) d;
-  stops = λ l i r gs w f s d. stops_remote c at y j rest h b l i.trees i.brackets r gs w f s d;
+  stops = λ l i r gs w f s d. stops_remote most c at y j rest h b l i.trees i.brackets r gs w f s d;
   excused = record {
-    limits = deeper (c.deep + 1) (c.open_ + 1);
-    wide = deeper_wide (c.deep + 1) (c.open_ + 1);
+    limits = deeper most (c.deep + 1) (c.open_ + 1);
+    wide = deeper_wide most (c.deep + 1) (c.open_ + 1);
     allows = (refl, refl);
     first = j;
     behind = rest;
@@ -246,7 +246,7 @@ end_forth : (l : Limits) (close : TokenKind) (c : Context) (ys : List Expr) (d :
 end_forth l close c _ d gs j w n h (expands _ (no_exprs close_0 c_0 d_0 q0) (takes t kk z)) = (refl, q0, z)
 end_forth l close c _ d gs j w n h (expands _ (exprs close_0 c_0 ay y dy ys dys d_0 q0 q1) z) = absurd (no_first n.begins h (first_level l 0 c ay y dy (Of (MoreExprs close c ys dys) ∷ gs) j w z))
 
-pub on_no_exprs : (close : TokenKind) (c : Context) (j : Word) (rest : List Word) → Closes close → j.kind ≡ close → Passes {X = List Expr × ℕ} closed (exprs_in close c) (j ∷ rest) nothing rest (λ u. ([], 0))
+pub on_no_exprs : {most : Limits} (close : TokenKind) (c : Context) (j : Word) (rest : List Word) → Closes close → j.kind ≡ close → Passes most {X = List Expr × ℕ} closed (exprs_in close c) (j ∷ rest) nothing rest (λ u. ([], 0))
 on_no_exprs close c j rest n h = record {
   front = j ∷ [];
   whole = refl;
@@ -267,7 +267,7 @@ exprs_forth l close c _ d gs rest w n s (expands _ (exprs close_0 c_0 ay y dy ys
 exprs_forth l close c _ d gs _ w no_mark_end s (expands _ (no_exprs close_0 c_0 d_0 q0) (takes t kk z)) = absurd s
 exprs_forth l close c _ d gs _ w (no_mark j rest n) s (expands _ (no_exprs close_0 c_0 d_0 q0) (takes t kk z)) = absurd (n (ap (λ v. v.kind) (sym s) ∙ kk))
 
-pub on_exprs : (close : TokenKind) (c : Context) (rest : List Word) → c.deep ≤ 256 → NoMark close rest → Passes {X = List Expr × ℕ} {Y = Placed Expr × (List Expr × ℕ)} closed (exprs_in close c) rest (expr_and_more close c) rest with_more
+pub on_exprs : {most : Limits} (close : TokenKind) (c : Context) (rest : List Word) → c.deep ≤ most.trees → NoMark close rest → Passes most {X = List Expr × ℕ} {Y = Placed Expr × (List Expr × ℕ)} closed (exprs_in close c) rest (expr_and_more close c) rest with_more
 on_exprs close c rest b n = record {
   front = [];
   whole = refl;
@@ -280,7 +280,7 @@ comma_forth : (l : Limits) (close : TokenKind) (c : Context) (ys : List Expr) (d
 comma_forth l close c _ d gs j w n h (expands _ (more_exprs close_0 c_0 ay y dy ys dys d_0 q0) (takes t kk z)) = ((record { at = ay; tree = y; height = dy }, (ys, dys)), refl, q0, z)
 comma_forth l close c _ d gs j w n h (expands _ (end_exprs close_0 c_0 d_0 q0) (takes t kk z)) = absurd (n.comma (sym kk ∙ h))
 
-pub on_comma : (close : TokenKind) (c : Context) (j : Word) (rest : List Word) → Closes close → j.kind ≡ k.Comma → Passes {X = List Expr × ℕ} {Y = Placed Expr × (List Expr × ℕ)} closed (more_exprs_in close c) (j ∷ rest) (expr_and_more close c) rest with_more
+pub on_comma : {most : Limits} (close : TokenKind) (c : Context) (j : Word) (rest : List Word) → Closes close → j.kind ≡ k.Comma → Passes most {X = List Expr × ℕ} {Y = Placed Expr × (List Expr × ℕ)} closed (more_exprs_in close c) (j ∷ rest) (expr_and_more close c) rest with_more
 on_comma close c j rest n h = record {
   front = j ∷ [];
   whole = refl;
@@ -292,7 +292,7 @@ close_forth : (l : Limits) (close : TokenKind) (c : Context) (ys : List Expr) (d
 close_forth l close c _ d gs j w n h (expands _ (more_exprs close_0 c_0 ay y dy ys dys d_0 q0) (takes t kk z)) = absurd (n.comma (sym h ∙ kk))
 close_forth l close c _ d gs j w n h (expands _ (end_exprs close_0 c_0 d_0 q0) (takes t kk z)) = (refl, q0, z)
 
-pub on_end : (close : TokenKind) (c : Context) (j : Word) (rest : List Word) → Closes close → j.kind ≡ close → Passes {X = List Expr × ℕ} closed (more_exprs_in close c) (j ∷ rest) nothing rest (λ u. ([], 0))
+pub on_end : {most : Limits} (close : TokenKind) (c : Context) (j : Word) (rest : List Word) → Closes close → j.kind ≡ close → Passes most {X = List Expr × ℕ} closed (more_exprs_in close c) (j ∷ rest) nothing rest (λ u. ([], 0))
 on_end close c j rest n h = record {
   front = j ∷ [];
   whole = refl;
@@ -306,7 +306,7 @@ more_stops l close c _ d gs _ w (no_mark j rest a) b s (expands _ (more_exprs cl
 more_stops l close c _ d gs _ w a no_mark_end s (expands _ (end_exprs close_0 c_0 d_0 q0) (takes t kk z)) = s
 more_stops l close c _ d gs _ w a (no_mark j rest b) s (expands _ (end_exprs close_0 c_0 d_0 q0) (takes t kk z)) = b (ap (λ v. v.kind) (sym s) ∙ kk)
 
-pub more_refused : (close : TokenKind) (c : Context) (rest : List Word) → NoMark k.Comma rest → NoMark close rest → IsRefused {X = List Expr × ℕ} closed (more_exprs_in close c) rest rest Syntax
+pub more_refused : {most : Limits} (close : TokenKind) (c : Context) (rest : List Word) → NoMark k.Comma rest → NoMark close rest → IsRefused most {X = List Expr × ℕ} closed (more_exprs_in close c) rest rest Syntax
 more_refused close c rest a b = record {
   front = [];
   whole = refl;
@@ -324,5 +324,5 @@ more_lengthens l close c _ d gs j w n h (expands _ (end_exprs close_0 c_0 d_0 q0
 pub behind_expr : (close : TokenKind) (c : Context) → Closes close → Behind {X = Placed Expr} {Y = List Expr × ℕ} (extends 0) closed (λ p. more_exprs_in close c)
 behind_expr close c n = record { behind = λ l p q gs f t w h d. more_lengthens l close c q.0 q.1 gs t w n h d }
 
-pub more_spelled : (close : TokenKind) (c : Context) → Spelled {X = Placed Expr} {Y = List Expr × ℕ} (λ p. more_exprs_in close c) (mark_word close ∷ [])
+pub more_spelled : {most : Limits} (close : TokenKind) (c : Context) → Spelled most {X = Placed Expr} {Y = List Expr × ℕ} (λ p. more_exprs_in close c) (mark_word close ∷ [])
 more_spelled close c = record { tree = λ p. ([], 0); spelled = λ l v p gs w d. expands _ (end_exprs close c 0 refl) (takes (mark_word close) refl d) }

@@ -63,7 +63,7 @@ level_forth : (l : Limits) (n : ℕ) (c : Context) (at : Span) (e : Expr) (d : �
 level_forth l n c at e d gs w h (expands _ (level n_0 c_0 at_0 y dy e_0 d_0 i) z) = (y, dy, z)
 level_forth l n c at e d gs w h (expands _ (operand n_0 c_0 at_0 e_0 d_0 i) z) = absurd (omega arith)
 
-pub on_level : (n : ℕ) (c : Context) (from : List Word) → n < 6 → Passes {X = Placed Expr} {Y = Placed Expr × (Expr × ℕ)} (extends n) (level_in n c) from (λ p. level_in (n + 1) c p.0 ++ tail_in n c p.0 p.1) from (λ p. record { at = p.0.at; tree = p.1.0; height = p.1.1 })
+pub on_level : {most : Limits} (n : ℕ) (c : Context) (from : List Word) → n < 6 → Passes most {X = Placed Expr} {Y = Placed Expr × (Expr × ℕ)} (extends n) (level_in n c) from (λ p. level_in (n + 1) c p.0 ++ tail_in n c p.0 p.1) from (λ p. record { at = p.0.at; tree = p.1.0; height = p.1.1 })
 on_level n c from h = record {
   front = [];
   whole = refl;
@@ -75,7 +75,7 @@ operand_forth : (l : Limits) (n : ℕ) (c : Context) (at : Span) (e : Expr) (d :
 operand_forth l n c at e d gs w h (expands _ (level n_0 c_0 at_0 y dy e_0 d_0 i) z) = absurd (omega arith)
 operand_forth l n c at e d gs w h (expands _ (operand n_0 c_0 at_0 e_0 d_0 i) z) = z
 
-pub on_operand : (n : ℕ) (c : Context) (from : List Word) → 6 ≤ n → Passes {X = Placed Expr} {Y = Placed Expr} (extends n) (level_in n c) from (operand_in c) from (λ p. p)
+pub on_operand : {most : Limits} (n : ℕ) (c : Context) (from : List Word) → 6 ≤ n → Passes most {X = Placed Expr} {Y = Placed Expr} (extends n) (level_in n c) from (operand_in c) from (λ p. p)
 on_operand n c from h = record {
   front = [];
   whole = refl;
@@ -91,7 +91,7 @@ behind_first l n c at y dy e d gs t w f h (expands _ (left n_0 c_0 at_0 y_0 dy_0
 pub behind_level : (n : ℕ) (c : Context) → Behind {X = Placed Expr} {Y = Expr × ℕ} (extends (n + 1)) (extends n) (tail_in n c)
 behind_level n c = record { behind = λ l p q gs f t w h d. behind_first l n c p.at p.tree p.height q.0 q.1 gs t w f h d }
 
-pub tail_spelled : (n : ℕ) (c : Context) → Spelled {X = Placed Expr} {Y = Expr × ℕ} (tail_in n c) []
+pub tail_spelled : {most : Limits} (n : ℕ) (c : Context) → Spelled most {X = Placed Expr} {Y = Expr × ℕ} (tail_in n c) []
 tail_spelled n c = record { tree = λ p. (p.tree, p.height); spelled = λ l i p gs w d. expands _ (alone n c _ _ _ _ _ refl refl) d }
 
 -- ---- Behind a first operand
@@ -106,7 +106,7 @@ alone_forth l n c at y dy e d gs _ w ended s (expands _ (left n_0 c_0 at_0 y_0 d
 alone_forth l n c at y dy e d gs _ w (other j rest i) s (expands _ (right n_0 c_0 at_0 y_0 dy_0 e_0 d_0 u op az r dr q0 q1 q2 q3 q4 q5 q6) (this z)) = absurd (i.none op (ap (λ v. operator_of v.kind) (sym s) ∙ q1) q2 q3)
 alone_forth l n c at y dy e d gs _ w (other j rest i) s (expands _ (left n_0 c_0 at_0 y_0 dy_0 e_0 d_0 u op az r dr q0 q1 q2 q3) (this z)) = absurd (i.none op (ap (λ v. operator_of v.kind) (sym s) ∙ q1) q2 (inr (sums_bind q2 q0)))
 
-pub on_alone : (n : ℕ) (c : Context) (y : Placed Expr) (rest : List Word) → NoneFollows n c rest → Passes {X = Expr × ℕ} (extends n) (tail_in n c y) rest nothing rest (λ u. (y.tree, y.height))
+pub on_alone : {most : Limits} (n : ℕ) (c : Context) (y : Placed Expr) (rest : List Word) → NoneFollows n c rest → Passes most {X = Expr × ℕ} (extends n) (tail_in n c y) rest nothing rest (λ u. (y.tree, y.height))
 on_alone n c y rest h = record {
   front = [];
   whole = refl;
@@ -123,8 +123,8 @@ right_forth l n c at y dy e d gs j w op h i a f (expands _ (alone n_0 c_0 at_0 y
 right_forth l n c at y dy e d gs j w op h i a f (expands _ (right n_0 c_0 at_0 y_0 dy_0 e_0 d_0 u op_0 az r dr q0 q1 q2 q3 q4 q5 q6) (this z)) = (record { at = az; tree = r; height = dr }, q5 ∙ ap (λ v. joined at v y r) (one_operator q1 i), q6, z)
 right_forth l n c at y dy e d gs j w op h i a f (expands _ (left n_0 c_0 at_0 y_0 dy_0 e_0 d_0 u op_0 az r dr q0 q1 q2 q3) (this z)) = absurd (omega arith)
 
-pub on_right : (n : ℕ) (c : Context) (y : Placed Expr) (j : Word) (rest : List Word) (op : Op) → n < 4 → operator_of j.kind ≡ Some op → level_of op ≡ n → (c.mode ≡ InBody ⊎ op ≢ o.Send) → c.deep + y.height ≤ 256 →
-    Passes {X = Expr × ℕ} {Y = Placed Expr} (extends n) (tail_in n c y) (j ∷ rest) (level_in (right_of n) (under c)) rest (λ z. (x.Binary y.at op (y.tree ∷ z.tree ∷ []), max y.height z.height + 1))
+pub on_right : {most : Limits} (n : ℕ) (c : Context) (y : Placed Expr) (j : Word) (rest : List Word) (op : Op) → n < 4 → operator_of j.kind ≡ Some op → level_of op ≡ n → (c.mode ≡ InBody ⊎ op ≢ o.Send) → c.deep + y.height ≤ most.trees →
+    Passes most {X = Expr × ℕ} {Y = Placed Expr} (extends n) (tail_in n c y) (j ∷ rest) (level_in (right_of n) (under c)) rest (λ z. (x.Binary y.at op (y.tree ∷ z.tree ∷ []), max y.height z.height + 1))
 on_right n c y j rest op h i a m b = record {
   front = j ∷ [];
   whole = refl;
@@ -140,8 +140,8 @@ left_forth l n c at y dy e d gs j w op h i a f (expands _ (left n_0 c_0 at_0 y_0
     let P : Op → Type 0 = λ v. Spells l (Of (Level (n + 1) (under c) az r dr) ∷ Of (Tail n c at (joined at v y r) (max dy dr + 1) e d) ∷ gs) w in
     (record { at = az; tree = r; height = dr }, subst P (one_operator q1 i) z)
 
-pub on_left : (n : ℕ) (c : Context) (y : Placed Expr) (j : Word) (rest : List Word) (op : Op) → 4 ≤ n → operator_of j.kind ≡ Some op → level_of op ≡ n → c.deep + y.height ≤ 256 →
-    Passes {X = Expr × ℕ} {Y = Placed Expr × (Expr × ℕ)} (extends n) (tail_in n c y) (j ∷ rest) (λ p. level_in (n + 1) (under c) p.0 ++ tail_in n c (record { at = y.at; tree = x.Binary y.at op (y.tree ∷ p.0.tree ∷ []); height = max y.height p.0.height + 1 }) p.1) rest (λ p. p.1)
+pub on_left : {most : Limits} (n : ℕ) (c : Context) (y : Placed Expr) (j : Word) (rest : List Word) (op : Op) → 4 ≤ n → operator_of j.kind ≡ Some op → level_of op ≡ n → c.deep + y.height ≤ most.trees →
+    Passes most {X = Expr × ℕ} {Y = Placed Expr × (Expr × ℕ)} (extends n) (tail_in n c y) (j ∷ rest) (λ p. level_in (n + 1) (under c) p.0 ++ tail_in n c (record { at = y.at; tree = x.Binary y.at op (y.tree ∷ p.0.tree ∷ []); height = max y.height p.0.height + 1 }) p.1) rest (λ p. p.1)
 on_left n c y j rest op h i a b = record {
   front = j ∷ [];
   whole = refl;
@@ -153,5 +153,5 @@ on_left n c y j rest op h i a b = record {
 pub behind_right : (n : ℕ) (c : Context) (y : Placed Expr) (op : Op) → Behind {X = Placed Expr} {Y = Expr × ℕ} (extends (n + 1)) (extends n) (λ z. tail_in n c (record { at = y.at; tree = x.Binary y.at op (y.tree ∷ z.tree ∷ []); height = max y.height z.height + 1 }))
 behind_right n c y op = record { behind = λ l p q gs f t w h d. behind_first l n c y.at (x.Binary y.at op (y.tree ∷ p.tree ∷ [])) (max y.height p.height + 1) q.0 q.1 gs t w f h d }
 
-pub right_spelled : (n : ℕ) (c : Context) (y : Placed Expr) (op : Op) → Spelled {X = Placed Expr} {Y = Expr × ℕ} (λ z. tail_in n c (record { at = y.at; tree = x.Binary y.at op (y.tree ∷ z.tree ∷ []); height = max y.height z.height + 1 })) []
+pub right_spelled : {most : Limits} (n : ℕ) (c : Context) (y : Placed Expr) (op : Op) → Spelled most {X = Placed Expr} {Y = Expr × ℕ} (λ z. tail_in n c (record { at = y.at; tree = x.Binary y.at op (y.tree ∷ z.tree ∷ []); height = max y.height z.height + 1 })) []
 right_spelled n c y op = record { tree = λ p. (x.Binary y.at op (y.tree ∷ p.tree ∷ []), max y.height p.height + 1); spelled = λ l i p gs w d. expands _ (alone n c _ _ _ _ _ refl refl) d }

@@ -17,6 +17,7 @@ use Rattle.pattern_read.specs.Reading.{Passes, IsRefused, IsWide, SameHead, clos
 use Rattle.pattern_read.specs.Wanted.{calls, level_in, operand_in, after_atom_in, qualified_in, mark_in, IsAt, NoMark, no_mark_end, no_mark, NoModule, no_word, no_module, NoSize, at_end, at_other}
 use Rattle.pattern_read.proofs.Passing.{Behind, Spelled}
 use Rattle.pattern_read.proofs.Levels.{same_placed, no_prefix}
+use Rattle.pattern_read.specs.Source.{Readable}
 
 one_prefix : {found : Option Prefix} {p q : Prefix} → found ≡ Some p → found ≡ Some q → p ≡ q
 one_prefix a b = cc
@@ -37,7 +38,7 @@ variable_forth l c at e d gs j w h (expands _ (common c_0 at_0 e_0 d_0) (expands
 variable_forth l c at e d gs j w h (expands _ (common c_0 at_0 e_0 d_0) (expands _ (bits c_1 at_1 e_1 d_1 q1_0 q1_1) (begins t kk ka z))) = cc
 variable_forth l c at e d gs j w h (expands _ (common c_0 at_0 e_0 d_0) (expands _ (paren c_1 at_1 e_1 d_1 ay_1 q1_0) (begins t kk ka z))) = cc
 
-pub on_variable : (c : Context) (j : Word) (rest : List Word) → j.kind ≡ k.Variable → Passes {X = Placed Expr} calls (operand_in c) (j ∷ rest) nothing rest (λ u. record { at = j.at; tree = x.Var j.at j.chars; height = 1 })
+pub on_variable : {most : Limits} (c : Context) (j : Word) (rest : List Word) → j.kind ≡ k.Variable → Passes most {X = Placed Expr} calls (operand_in c) (j ∷ rest) nothing rest (λ u. record { at = j.at; tree = x.Var j.at j.chars; height = 1 })
 on_variable c j rest h = record {
   front = j ∷ [];
   whole = refl;
@@ -61,7 +62,7 @@ integer_forth l c at e d gs j w h (expands _ (common c_0 at_0 e_0 d_0) (expands 
 integer_forth l c at e d gs j w h (expands _ (common c_0 at_0 e_0 d_0) (expands _ (bits c_1 at_1 e_1 d_1 q1_0 q1_1) (begins t kk ka z))) = cc
 integer_forth l c at e d gs j w h (expands _ (common c_0 at_0 e_0 d_0) (expands _ (paren c_1 at_1 e_1 d_1 ay_1 q1_0) (begins t kk ka z))) = cc
 
-pub on_integer : (c : Context) (j : Word) (rest : List Word) → j.kind ≡ k.Integer → Passes {X = Placed Expr} calls (operand_in c) (j ∷ rest) nothing rest (λ u. record { at = j.at; tree = x.Int j.at (pos j.number); height = 1 })
+pub on_integer : {most : Limits} (c : Context) (j : Word) (rest : List Word) → j.kind ≡ k.Integer → Passes most {X = Placed Expr} calls (operand_in c) (j ∷ rest) nothing rest (λ u. record { at = j.at; tree = x.Int j.at (pos j.number); height = 1 })
 on_integer c j rest h = record {
   front = j ∷ [];
   whole = refl;
@@ -85,7 +86,7 @@ character_forth l c at e d gs j w h (expands _ (common c_0 at_0 e_0 d_0) (expand
 character_forth l c at e d gs j w h (expands _ (common c_0 at_0 e_0 d_0) (expands _ (bits c_1 at_1 e_1 d_1 q1_0 q1_1) (begins t kk ka z))) = cc
 character_forth l c at e d gs j w h (expands _ (common c_0 at_0 e_0 d_0) (expands _ (paren c_1 at_1 e_1 d_1 ay_1 q1_0) (begins t kk ka z))) = cc
 
-pub on_character : (c : Context) (j : Word) (rest : List Word) → j.kind ≡ k.Character → Passes {X = Placed Expr} calls (operand_in c) (j ∷ rest) nothing rest (λ u. record { at = j.at; tree = x.Char j.at j.number; height = 1 })
+pub on_character : {most : Limits} (c : Context) (j : Word) (rest : List Word) → j.kind ≡ k.Character → Passes most {X = Placed Expr} calls (operand_in c) (j ∷ rest) nothing rest (λ u. record { at = j.at; tree = x.Char j.at j.number; height = 1 })
 on_character c j rest h = record {
   front = j ∷ [];
   whole = refl;
@@ -109,7 +110,7 @@ atom_forth l c at e d gs j w h (expands _ (common c_0 at_0 e_0 d_0) (expands _ (
 atom_forth l c at e d gs j w h (expands _ (common c_0 at_0 e_0 d_0) (expands _ (bits c_1 at_1 e_1 d_1 q1_0 q1_1) (begins t kk ka z))) = cc
 atom_forth l c at e d gs j w h (expands _ (common c_0 at_0 e_0 d_0) (expands _ (paren c_1 at_1 e_1 d_1 ay_1 q1_0) (begins t kk ka z))) = cc
 
-pub on_atom : (c : Context) (j : Word) (rest : List Word) → j.kind ≡ k.Atom → Passes {X = Placed Expr} {Y = Expr × ℕ} calls (operand_in c) (j ∷ rest) (after_atom_in c j.at j.number) rest (λ r. record { at = j.at; tree = r.0; height = r.1 })
+pub on_atom : {most : Limits} (c : Context) (j : Word) (rest : List Word) → j.kind ≡ k.Atom → Passes most {X = Placed Expr} {Y = Expr × ℕ} calls (operand_in c) (j ∷ rest) (after_atom_in c j.at j.number) rest (λ r. record { at = j.at; tree = r.0; height = r.1 })
 on_atom c j rest h = record {
   front = j ∷ [];
   whole = refl;
@@ -133,8 +134,8 @@ prefix_forth l c at e d gs j w op h (expands _ (common c_0 at_0 e_0 d_0) (expand
 prefix_forth l c at e d gs j w op h (expands _ (common c_0 at_0 e_0 d_0) (expands _ (bits c_1 at_1 e_1 d_1 q1_0 q1_1) (begins t kk ka z))) = absurd (no_prefix (ap prefix_of kk) h)
 prefix_forth l c at e d gs j w op h (expands _ (common c_0 at_0 e_0 d_0) (expands _ (paren c_1 at_1 e_1 d_1 ay_1 q1_0) (begins t kk ka z))) = absurd (no_prefix (ap prefix_of kk) h)
 
-pub on_prefix : (c : Context) (j : Word) (rest : List Word) (op : Prefix) → prefix_of j.kind ≡ Some op → c.deep + 1 ≤ 256 →
-    Passes {X = Placed Expr} {Y = Placed Expr} calls (operand_in c) (j ∷ rest) (operand_in (under c)) rest (λ y. record { at = j.at; tree = x.Unary j.at op (y.tree ∷ []); height = y.height + 1 })
+pub on_prefix : {most : Limits} (c : Context) (j : Word) (rest : List Word) (op : Prefix) → prefix_of j.kind ≡ Some op → c.deep + 1 ≤ most.trees →
+    Passes most {X = Placed Expr} {Y = Placed Expr} calls (operand_in c) (j ∷ rest) (operand_in (under c)) rest (λ y. record { at = j.at; tree = x.Unary j.at op (y.tree ∷ []); height = y.height + 1 })
 on_prefix c j rest op h b = record {
   front = j ∷ [];
   whole = refl;
@@ -162,8 +163,8 @@ paren_forth l c at e d gs j w h (expands _ (common c_0 at_0 e_0 d_0) (expands _ 
 abbrev pub in_paren : Context → Placed Expr × Unit {0} → List Goal
 in_paren c p = level_in 0 (inside c) p.0 ++ (Mark k.RightParen ∷ [])
 
-pub on_paren : (c : Context) (j : Word) (rest : List Word) → j.kind ≡ k.LeftParen → c.open_ < 64 →
-    Passes {X = Placed Expr} {Y = Placed Expr × Unit {0}} calls (operand_in c) (j ∷ rest) (in_paren c) rest (λ p. record { at = j.at; tree = p.0.tree; height = p.0.height })
+pub on_paren : {most : Limits} (c : Context) (j : Word) (rest : List Word) → j.kind ≡ k.LeftParen → c.open_ < most.brackets →
+    Passes most {X = Placed Expr} {Y = Placed Expr × Unit {0}} calls (operand_in c) (j ∷ rest) (in_paren c) rest (λ p. record { at = j.at; tree = p.0.tree; height = p.0.height })
 on_paren c j rest h b = record {
   front = j ∷ [];
   whole = refl;
@@ -191,8 +192,8 @@ macro_takes : {l : Limits} {t : Word} {gs : List Goal} {j : Word} {w : List Word
 macro_takes (this z) = z
 
 -- `?` and the variable `MODULE`
-pub on_macro : (c : Context) (j m : Word) (rest : List Word) → j.kind ≡ k.Question → m.kind ≡ k.Variable → m.chars ≡ module_macro →
-    Passes {X = Placed Expr} {Y = Expr × ℕ} calls (operand_in c) (j ∷ (m ∷ rest)) (qualified_in c j.at (x.ModuleName j.at)) rest (λ r. record { at = j.at; tree = r.0; height = r.1 })
+pub on_macro : {most : Limits} (c : Context) (j m : Word) (rest : List Word) → j.kind ≡ k.Question → m.kind ≡ k.Variable → m.chars ≡ module_macro →
+    Passes most {X = Placed Expr} {Y = Expr × ℕ} calls (operand_in c) (j ∷ (m ∷ rest)) (qualified_in c j.at (x.ModuleName j.at)) rest (λ r. record { at = j.at; tree = r.0; height = r.1 })
 on_macro c j m rest h i a = record {
   front = j ∷ (m ∷ []);
   whole = refl;
@@ -259,7 +260,7 @@ no_size_operand l c at e d gs _ w m (at_other j rest n) s (expands _ (common c_0
 no_size_operand l c at e d gs _ w m (at_other j rest n) s (expands _ (common c_0 at_0 e_0 d_0) (expands _ (bits c_1 at_1 e_1 d_1 q1_0 q1_1) (begins t kk ka z))) = absurd (q1_0 m)
 no_size_operand l c at e d gs _ w m (at_other j rest n) s (expands _ (common c_0 at_0 e_0 d_0) (expands _ (paren c_1 at_1 e_1 d_1 ay_1 q1_0) (begins t kk ka z))) = n.paren (ap (λ v. v.kind) (sym s) ∙ kk)
 
-pub no_size : (c : Context) (rest : List Word) → c.mode ≡ InSize → NoSize rest → IsRefused {X = Placed Expr} calls (operand_in c) rest rest Syntax
+pub no_size : {most : Limits} (c : Context) (rest : List Word) → c.mode ≡ InSize → NoSize rest → IsRefused most {X = Placed Expr} calls (operand_in c) rest rest Syntax
 no_size c rest m n = record {
   front = [];
   whole = refl;
@@ -271,11 +272,11 @@ no_size c rest m n = record {
 }
 
 -- limits at which one more fits
-abbrev pub deeper : ℕ → ℕ → Limits
-deeper trees brackets = record { trees = 256 + trees; brackets = 64 + brackets; any_attribute = false; any_type = false }
+abbrev pub deeper : Limits → ℕ → ℕ → Limits
+deeper most trees brackets = record { trees = most.trees + trees; brackets = most.brackets + brackets; any_attribute = false; any_type = false }
 
-pub deeper_wide : (trees brackets : ℕ) → IsWide (deeper trees brackets)
-deeper_wide trees brackets = record { trees = omega arith; brackets = omega arith }
+pub deeper_wide : (most : Limits) (trees brackets : ℕ) → IsWide most (deeper most trees brackets)
+deeper_wide most trees brackets = record { trees = omega arith; brackets = omega arith }
 
 -- behind a prefix the part would be too deep
 
@@ -295,28 +296,28 @@ prefix_depth l c at e d gs j w op h (expands _ (common c_0 at_0 e_0 d_0) (expand
 prefix_depth l c at e d gs j w op h (expands _ (common c_0 at_0 e_0 d_0) (expands _ (bits c_1 at_1 e_1 d_1 q1_0 q1_1) (begins t kk ka z))) = absurd (no_prefix (ap prefix_of kk) h)
 prefix_depth l c at e d gs j w op h (expands _ (common c_0 at_0 e_0 d_0) (expands _ (paren c_1 at_1 e_1 d_1 ay_1 q1_0) (begins t kk ka z))) = absurd (no_prefix (ap prefix_of kk) h)
 
-stops_prefix : (c : Context) (j : Word) (rest : List Word) (op : Prefix) → prefix_of j.kind ≡ Some op → 256 < c.deep + 1 → (l : Limits) → l.trees ≡ 256 → (r : Placed Expr) (gs : List Goal) (w : List Word) → SameHead w (j ∷ rest) → Spells l (operand_in c r ++ gs) w → ⊥
-stops_prefix c j rest op h b l i r gs [] s d = s
-stops_prefix c j rest op h b l i r gs (t ∷ w) s d = let a : c.deep + 1 ≤ l.trees = prefix_depth l c r.at r.tree r.height gs t w op (ap (λ v. prefix_of v.kind) s ∙ h) d in omega arith
+stops_prefix : (most : Limits) (c : Context) (j : Word) (rest : List Word) (op : Prefix) → prefix_of j.kind ≡ Some op → most.trees < c.deep + 1 → (l : Limits) → l.trees ≡ most.trees → (r : Placed Expr) (gs : List Goal) (w : List Word) → SameHead w (j ∷ rest) → Spells l (operand_in c r ++ gs) w → ⊥
+stops_prefix most c j rest op h b l i r gs [] s d = s
+stops_prefix most c j rest op h b l i r gs (t ∷ w) s d = let a : c.deep + 1 ≤ l.trees = prefix_depth l c r.at r.tree r.height gs t w op (ap (λ v. prefix_of v.kind) s ∙ h) d in omega arith
 
-pub prefix_too_deep : (c : Context) (j : Word) (rest : List Word) (op : Prefix) → prefix_of j.kind ≡ Some op → 256 < c.deep + 1 → IsRefused {X = Placed Expr} calls (operand_in c) (j ∷ rest) (j ∷ rest) TooDeep
-prefix_too_deep c j rest op h b = record {
+pub prefix_too_deep : {most : Limits} (c : Context) (j : Word) (rest : List Word) (op : Prefix) → prefix_of j.kind ≡ Some op → most.trees < c.deep + 1 → IsRefused most {X = Placed Expr} calls (operand_in c) (j ∷ rest) (j ∷ rest) TooDeep
+prefix_too_deep {most = most} c j rest op h b = record {
   front = [];
   whole = refl;
   tree = some_expr;
   more = some_word ∷ [];
   goes_on = λ l v gs w d. operand_spells l c gs w d;
-  stops = λ l i r gs w f s d. stops_prefix c j rest op h b l i.trees r gs w s d;
+  stops = λ l i r gs w f s d. stops_prefix most c j rest op h b l i.trees r gs w s d;
   excused = record {
-    limits = deeper (c.deep + 1) 0;
-    wide = deeper_wide (c.deep + 1) 0;
+    limits = deeper most (c.deep + 1) 0;
+    wide = deeper_wide most (c.deep + 1) 0;
     allows = (refl, refl);
     first = j;
     behind = rest;
     begins = refl;
     tree = record { at = j.at; tree = x.Unary j.at op (x.Var some_place [] ∷ []); height = 2 };
     more = some_word ∷ [];
-    goes_on = λ gs w d. expands _ (prefix c _ _ _ j op some_place (x.Var some_place []) 1 h refl (omega arith) refl refl) (this (operand_spells (deeper (c.deep + 1) 0) (under c) gs w d));
+    goes_on = λ gs w d. expands _ (prefix c _ _ _ j op some_place (x.Var some_place []) 1 h refl (omega arith) refl refl) (this (operand_spells (deeper most (c.deep + 1) 0) (under c) gs w d));
   };
 }
 
@@ -336,31 +337,31 @@ paren_depth l c at e d gs j w h (expands _ (common c_0 at_0 e_0 d_0) (expands _ 
 paren_depth l c at e d gs j w h (expands _ (common c_0 at_0 e_0 d_0) (expands _ (bits c_1 at_1 e_1 d_1 q1_0 q1_1) (begins t kk ka z))) = cc
 paren_depth l c at e d gs j w h (expands _ (common c_0 at_0 e_0 d_0) (expands _ (paren c_1 at_1 e_1 d_1 ay_1 q1_0) (begins t kk ka z))) = q1_0
 
-stops_paren : (c : Context) (j : Word) (rest : List Word) → j.kind ≡ k.LeftParen → 64 ≤ c.open_ → (l : Limits) → l.brackets ≡ 64 → (r : Placed Expr) (gs : List Goal) (w : List Word) → SameHead w (j ∷ rest) → Spells l (operand_in c r ++ gs) w → ⊥
-stops_paren c j rest h b l i r gs [] s d = s
-stops_paren c j rest h b l i r gs (t ∷ w) s d = let a : c.open_ < l.brackets = paren_depth l c r.at r.tree r.height gs t w (ap (λ v. v.kind) s ∙ h) d in omega arith
+stops_paren : (most : Limits) (c : Context) (j : Word) (rest : List Word) → j.kind ≡ k.LeftParen → most.brackets ≤ c.open_ → (l : Limits) → l.brackets ≡ most.brackets → (r : Placed Expr) (gs : List Goal) (w : List Word) → SameHead w (j ∷ rest) → Spells l (operand_in c r ++ gs) w → ⊥
+stops_paren most c j rest h b l i r gs [] s d = s
+stops_paren most c j rest h b l i r gs (t ∷ w) s d = let a : c.open_ < l.brackets = paren_depth l c r.at r.tree r.height gs t w (ap (λ v. v.kind) s ∙ h) d in omega arith
 
 abbrev pub close_paren : Word
 close_paren = record { kind = k.RightParen; at = some_place; number = 0; chars = [] }
 
-pub paren_too_deep : (c : Context) (j : Word) (rest : List Word) → j.kind ≡ k.LeftParen → 64 ≤ c.open_ → IsRefused {X = Placed Expr} calls (operand_in c) (j ∷ rest) (j ∷ rest) TooDeep
-paren_too_deep c j rest h b = record {
+pub paren_too_deep : {most : Limits} (c : Context) (j : Word) (rest : List Word) → j.kind ≡ k.LeftParen → most.brackets ≤ c.open_ → IsRefused most {X = Placed Expr} calls (operand_in c) (j ∷ rest) (j ∷ rest) TooDeep
+paren_too_deep {most = most} c j rest h b = record {
   front = [];
   whole = refl;
   tree = some_expr;
   more = some_word ∷ [];
   goes_on = λ l v gs w d. operand_spells l c gs w d;
-  stops = λ l i r gs w f s d. stops_paren c j rest h b l i.brackets r gs w s d;
+  stops = λ l i r gs w f s d. stops_paren most c j rest h b l i.brackets r gs w s d;
   excused = record {
-    limits = deeper 0 (c.open_ + 1);
-    wide = deeper_wide 0 (c.open_ + 1);
+    limits = deeper most 0 (c.open_ + 1);
+    wide = deeper_wide most 0 (c.open_ + 1);
     allows = (refl, refl);
     first = j;
     behind = rest;
     begins = refl;
     tree = record { at = j.at; tree = x.Var some_place []; height = 1 };
     more = some_word ∷ (close_paren ∷ []);
-    goes_on = λ gs w d. expands _ (common c _ _ _) (expands _ (paren c _ _ _ some_place (omega arith)) (begins j h refl (level_completed 0 (deeper 0 (c.open_ + 1)) (inside c) (Mark k.RightParen ∷ gs) (close_paren ∷ w) (takes close_paren refl d))));
+    goes_on = λ gs w d. expands _ (common c _ _ _) (expands _ (paren c _ _ _ some_place (omega arith)) (begins j h refl (level_completed 0 (deeper most 0 (c.open_ + 1)) (inside c) (Mark k.RightParen ∷ gs) (close_paren ∷ w) (takes close_paren refl d))));
   };
 }
 
@@ -375,7 +376,7 @@ stops_macro c j h l r gs rest w n s d = let m = macro_forth l c r.at r.tree r.he
 abbrev pub module_word : Word
 module_word = record { kind = k.Variable; at = some_place; number = 0; chars = module_macro }
 
-pub macro_refused : (c : Context) (j : Word) (rest : List Word) → j.kind ≡ k.Question → NoModule rest → IsRefused {X = Placed Expr} calls (operand_in c) (j ∷ rest) rest Syntax
+pub macro_refused : {most : Limits} (c : Context) (j : Word) (rest : List Word) → j.kind ≡ k.Question → NoModule rest → IsRefused most {X = Placed Expr} calls (operand_in c) (j ∷ rest) rest Syntax
 macro_refused c j rest h n = record {
   front = j ∷ [];
   whole = refl;
@@ -389,7 +390,7 @@ macro_refused c j rest h n = record {
 mark_forth : {l : Limits} {kind : TokenKind} {gs : List Goal} {j : Word} {w : List Word} → Spells l (Mark kind ∷ gs) (j ∷ w) → Spells l gs w
 mark_forth (takes t h z) = z
 
-pub on_mark : (kind : TokenKind) (j : Word) (rest : List Word) → j.kind ≡ kind → Passes {X = Unit {0}} {Y = Unit {0}} closed (mark_in kind) (j ∷ rest) nothing rest (λ u. tt)
+pub on_mark : {most : Limits} (kind : TokenKind) (j : Word) (rest : List Word) → j.kind ≡ kind → Passes most {X = Unit {0}} {Y = Unit {0}} closed (mark_in kind) (j ∷ rest) nothing rest (λ u. tt)
 on_mark kind j rest h = record {
   front = j ∷ [];
   whole = refl;
@@ -397,8 +398,8 @@ on_mark kind j rest h = record {
   forth = λ l u gs w f s d. (tt, refl, mark_forth d);
 }
 
-pub mark_passes : (all : List Word) (at : ℕ) (kind : TokenKind) → IsAt all at kind → Passes {X = Unit {0}} {Y = Unit {0}} closed (mark_in kind) (drop at all) nothing (drop (at + 1) all) (λ u. tt)
-mark_passes all at kind s = let P : List Word → Type 0 = λ v. Passes {X = Unit {0}} {Y = Unit {0}} closed (mark_in kind) v nothing (drop (at + 1) all) (λ u. tt) in subst P (sym s.is) (on_mark kind s.word (drop (at + 1) all) s.kind_is)
+pub mark_passes : (all : Readable) (at : ℕ) (kind : TokenKind) → IsAt all at kind → Passes all.limits {X = Unit {0}} {Y = Unit {0}} closed (mark_in kind) (drop at all.words) nothing (drop (at + 1) all.words) (λ u. tt)
+mark_passes all at kind s = let P : List Word → Type 0 = λ v. Passes all.limits {X = Unit {0}} {Y = Unit {0}} closed (mark_in kind) v nothing (drop (at + 1) all.words) (λ u. tt) in subst P (sym s.is) (on_mark kind s.word (drop (at + 1) all.words) s.kind_is)
 
 mark_stops : (kind : TokenKind) (l : Limits) (gs : List Goal) (rest w : List Word) → NoMark kind rest → SameHead w rest → Spells l (Mark kind ∷ gs) w → ⊥
 mark_stops kind l gs _ w no_mark_end s (takes t h z) = s
@@ -407,7 +408,7 @@ mark_stops kind l gs _ w (no_mark j rest n) s (takes t h z) = n (ap (λ v. v.kin
 abbrev pub mark_word : TokenKind → Word
 mark_word kind = record { kind = kind; at = some_place; number = 0; chars = [] }
 
-pub mark_refused : (kind : TokenKind) (rest : List Word) → NoMark kind rest → IsRefused {X = Unit {0}} closed (mark_in kind) rest rest Syntax
+pub mark_refused : {most : Limits} (kind : TokenKind) (rest : List Word) → NoMark kind rest → IsRefused most {X = Unit {0}} closed (mark_in kind) rest rest Syntax
 mark_refused kind rest n = record {
   front = [];
   whole = refl;
@@ -425,5 +426,5 @@ mark_follows kind inner l gs t w n h (takes u i z) = let a : inner t.kind ≡ in
 pub behind_mark : {X : Type 0} (kind : TokenKind) (inner outer : TokenKind → Bool) → inner kind ≡ false → Behind {X = X} {Y = Unit {0}} inner outer (λ p. mark_in kind)
 behind_mark kind inner outer n = record { behind = λ l p q gs f t w h d. mark_follows kind inner l gs t w n h d }
 
-pub mark_spelled : {X : Type 0} (kind : TokenKind) → Spelled {X = X} {Y = Unit {0}} (λ p. mark_in kind) (mark_word kind ∷ [])
+pub mark_spelled : {most : Limits} {X : Type 0} (kind : TokenKind) → Spelled most {X = X} {Y = Unit {0}} (λ p. mark_in kind) (mark_word kind ∷ [])
 mark_spelled kind = record { tree = λ p. tt; spelled = λ l v p gs w d. takes (mark_word kind) refl d }

@@ -8,6 +8,7 @@ use Rattle.pattern_read.specs.declared.fault.Fault.TheVariants.{Memory, Refused}
 use Rattle.pattern_read.specs.declared.fault.Cause.{Cause}
 use Rattle.pattern_read.specs.declared.fault.Cause.TheVariants.{Syntax, TooDeep, UnknownAttribute, UnknownSegmentType, Undecided}
 use Rattle.pattern_read.specs.Reading.{Passes, IsRefused, GoesOn, Excused, IsWide, Follows, SameHead, closed, nothing, Gives}
+use Rattle.pattern_read.specs.Source.{Readable}
 
 pub same_front : (f w z : List Word) → SameHead w z → SameHead (f ++ w) (f ++ z)
 same_front [] w z s = s
@@ -42,8 +43,8 @@ pub record Behind {X Y : Type 0} (inner outer : TokenKind → Bool) (b : X → Y
 pub behind_closed : {X Y : Type 0} (outer : TokenKind → Bool) (b : X → Y → List Goal) → Behind closed outer b
 behind_closed outer b = record { behind = λ l x q gs f t w h d. cc }
 
-pub and_then : {X Y Z : Type 0} {outer inner : TokenKind → Bool} {a : X → List Goal} {b : Y → List Goal} {c : Z → List Goal} {x y z : List Word} {f : Y → X} {g : Z → Y} →
-    Within inner outer → Passes outer a x b y f → Passes inner b y c z g → Passes outer a x c z (λ u. f (g u))
+pub and_then : {most : Limits} {X Y Z : Type 0} {outer inner : TokenKind → Bool} {a : X → List Goal} {b : Y → List Goal} {c : Z → List Goal} {x y z : List Word} {f : Y → X} {g : Z → Y} →
+    Within inner outer → Passes most outer a x b y f → Passes most inner b y c z g → Passes most outer a x c z (λ u. f (g u))
 and_then {a = a} {b = b} {c = c} {x = x} {y = y} {z = z} {f = f} {g = g} n s t = record {
   front = s.front ++ t.front;
   whole = s.whole ∙ ap (λ v. s.front ++ v) t.whole ∙ sym (append_assoc s.front t.front z);
@@ -54,8 +55,8 @@ and_then {a = a} {b = b} {c = c} {x = x} {y = y} {z = z} {f = f} {g = g} n s t =
       (k.0, m.1 ∙ ap f k.1, k.2);
 }
 
-goes_on_after : {X Y : Type 0} {outer : TokenKind → Bool} {a : X → List Goal} {b : Y → List Goal} {x y z front : List Word} {f : Y → X} {why : Cause} →
-    (s : Passes outer a x b y f) → GoesOn b front z why → GoesOn a (s.front ++ front) z why
+goes_on_after : {most : Limits} {X Y : Type 0} {outer : TokenKind → Bool} {a : X → List Goal} {b : Y → List Goal} {x y z front : List Word} {f : Y → X} {why : Cause} →
+    (s : Passes most outer a x b y f) → GoesOn most b front z why → GoesOn most a (s.front ++ front) z why
 goes_on_after {a = a} {b = b} {z = z} {front = front} {f = f} s g = record {
   limits = g.limits;
   wide = g.wide;
@@ -68,16 +69,16 @@ goes_on_after {a = a} {b = b} {z = z} {front = front} {f = f} s g = record {
   goes_on = λ gs w d. spells_at (sym (append_assoc s.front front (g.first ∷ (g.more ++ w)))) (s.back g.limits g.wide g.tree gs (front ++ (g.first ∷ (g.more ++ w))) (g.goes_on gs w d));
 }
 
-excused_after : {X Y : Type 0} {outer : TokenKind → Bool} {a : X → List Goal} {b : Y → List Goal} {x y : List Word} (z front : List Word) {f : Y → X} (why : Cause) →
-    (s : Passes outer a x b y f) → Excused b front z why → Excused a (s.front ++ front) z why
+excused_after : {most : Limits} {X Y : Type 0} {outer : TokenKind → Bool} {a : X → List Goal} {b : Y → List Goal} {x y : List Word} (z front : List Word) {f : Y → X} (why : Cause) →
+    (s : Passes most outer a x b y f) → Excused most b front z why → Excused most a (s.front ++ front) z why
 excused_after z front Syntax s e = tt
 excused_after z front TooDeep s e = goes_on_after s e
 excused_after z front UnknownAttribute s e = goes_on_after s e
 excused_after z front UnknownSegmentType s e = goes_on_after s e
 excused_after z front Undecided s e = tt
 
-pub refused_after : {X Y : Type 0} {outer inner : TokenKind → Bool} {a : X → List Goal} {b : Y → List Goal} {x y z : List Word} {f : Y → X} {why : Cause} →
-    Within inner outer → Passes outer a x b y f → IsRefused inner b y z why → IsRefused outer a x z why
+pub refused_after : {most : Limits} {X Y : Type 0} {outer inner : TokenKind → Bool} {a : X → List Goal} {b : Y → List Goal} {x y z : List Word} {f : Y → X} {why : Cause} →
+    Within inner outer → Passes most outer a x b y f → IsRefused most inner b y z why → IsRefused most outer a x z why
 refused_after {a = a} {b = b} {x = x} {y = y} {z = z} {f = f} {why = why} n s t = record {
   front = s.front ++ t.front;
   whole = s.whole ∙ ap (λ v. s.front ++ v) t.whole ∙ sym (append_assoc s.front t.front z);
@@ -91,8 +92,8 @@ refused_after {a = a} {b = b} {x = x} {y = y} {z = z} {f = f} {why = why} n s t 
 }
 
 -- a pass of the first of two wanted things, before the second
-pub first_of_two : {X Y : Type 0} {inner outer : TokenKind → Bool} {a : X → List Goal} {b : X → Y → List Goal} {x y : List Word} {v : X} →
-    Behind inner outer b → Passes inner a x nothing y (λ u. v) → Passes {X = X × Y} outer (λ p. a p.0 ++ b p.0 p.1) x (b v) y (λ q. (v, q))
+pub first_of_two : {most : Limits} {X Y : Type 0} {inner outer : TokenKind → Bool} {a : X → List Goal} {b : X → Y → List Goal} {x y : List Word} {v : X} →
+    Behind inner outer b → Passes most inner a x nothing y (λ u. v) → Passes most {X = X × Y} outer (λ p. a p.0 ++ b p.0 p.1) x (b v) y (λ q. (v, q))
 first_of_two {a = a} {b = b} {x = x} {y = y} {v = v} n s = record {
   front = s.front;
   whole = s.whole;
@@ -103,12 +104,12 @@ first_of_two {a = a} {b = b} {x = x} {y = y} {v = v} n s = record {
 }
 
 -- whatever was read first, what is wanted behind it has this spelling
-pub record Spelled {X Y : Type 0} (b : X → Y → List Goal) (v : List Word) : Type 0 where
+pub record Spelled (most : Limits) {X Y : Type 0} (b : X → Y → List Goal) (v : List Word) : Type 0 where
   pub tree : X → Y
-  pub spelled : (l : Limits) → IsWide l → (x : X) (gs : List Goal) (w : List Word) → Spells l gs w → Spells l (b x (tree x) ++ gs) (v ++ w)
+  pub spelled : (l : Limits) → IsWide most l → (x : X) (gs : List Goal) (w : List Word) → Spells l gs w → Spells l (b x (tree x) ++ gs) (v ++ w)
 
-goes_on_first : {X Y : Type 0} {a : X → List Goal} {b : X → Y → List Goal} {v z front : List Word} {why : Cause} →
-    Spelled b v → GoesOn a front z why → GoesOn {X = X × Y} (λ p. a p.0 ++ b p.0 p.1) front z why
+goes_on_first : {most : Limits} {X Y : Type 0} {a : X → List Goal} {b : X → Y → List Goal} {v z front : List Word} {why : Cause} →
+    Spelled most b v → GoesOn most a front z why → GoesOn most {X = X × Y} (λ p. a p.0 ++ b p.0 p.1) front z why
 goes_on_first {a = a} {b = b} {v = v} {front = front} f g = record {
   limits = g.limits;
   wide = g.wide;
@@ -121,8 +122,8 @@ goes_on_first {a = a} {b = b} {v = v} {front = front} f g = record {
   goes_on = λ gs w d. spells_as (sym (assoc_goals (a g.tree) (b g.tree (f.tree g.tree)) gs)) (spells_at (ap (λ u. front ++ (g.first ∷ u)) (sym (append_assoc g.more v w))) (g.goes_on (b g.tree (f.tree g.tree) ++ gs) (v ++ w) (f.spelled g.limits g.wide g.tree gs w d)));
 }
 
-excused_first : {X Y : Type 0} (a : X → List Goal) {b : X → Y → List Goal} {v : List Word} (z front : List Word) (why : Cause) →
-    Spelled b v → Excused a front z why → Excused {X = X × Y} (λ p. a p.0 ++ b p.0 p.1) front z why
+excused_first : {most : Limits} {X Y : Type 0} (a : X → List Goal) {b : X → Y → List Goal} {v : List Word} (z front : List Word) (why : Cause) →
+    Spelled most b v → Excused most a front z why → Excused most {X = X × Y} (λ p. a p.0 ++ b p.0 p.1) front z why
 excused_first a z front Syntax f e = tt
 excused_first a z front TooDeep f e = goes_on_first f e
 excused_first a z front UnknownAttribute f e = goes_on_first f e
@@ -130,8 +131,8 @@ excused_first a z front UnknownSegmentType f e = goes_on_first f e
 excused_first a z front Undecided f e = tt
 
 -- the first of two wanted things is refused, and the second has some spelling
-pub refused_first : {X Y : Type 0} {inner outer : TokenKind → Bool} {a : X → List Goal} {b : X → Y → List Goal} {x y : List Word} {v : List Word} {why : Cause} →
-    Behind inner outer b → Spelled b v → IsRefused inner a x y why → IsRefused {X = X × Y} outer (λ p. a p.0 ++ b p.0 p.1) x y why
+pub refused_first : {most : Limits} {X Y : Type 0} {inner outer : TokenKind → Bool} {a : X → List Goal} {b : X → Y → List Goal} {x y : List Word} {v : List Word} {why : Cause} →
+    Behind inner outer b → Spelled most b v → IsRefused most inner a x y why → IsRefused most {X = X × Y} outer (λ p. a p.0 ++ b p.0 p.1) x y why
 refused_first {a = a} {b = b} {x = x} {y = y} {v = v} {why = why} n f s = record {
   front = s.front;
   whole = s.whole;
@@ -142,20 +143,20 @@ refused_first {a = a} {b = b} {x = x} {y = y} {v = v} {why = why} n f s = record
   excused = excused_first a y s.front why f s.excused;
 }
 
-pub at_token : {X Y : Type 0} {longer : TokenKind → Bool} {a : X → List Goal} {b : Y → List Goal} {from rest z : List Word} {f : Y → X} {j : Word} →
-    from ≡ j ∷ rest → Passes longer a (j ∷ rest) b z f → Passes longer a from b z f
-at_token {longer = longer} {a = a} {b = b} {z = z} {f = f} e t = let P : List Word → Type 0 = λ u. Passes longer a u b z f in subst P (sym e) t
+pub at_token : {most : Limits} {X Y : Type 0} {longer : TokenKind → Bool} {a : X → List Goal} {b : Y → List Goal} {from rest z : List Word} {f : Y → X} {j : Word} →
+    from ≡ j ∷ rest → Passes most longer a (j ∷ rest) b z f → Passes most longer a from b z f
+at_token {most = most} {longer = longer} {a = a} {b = b} {z = z} {f = f} e t = let P : List Word → Type 0 = λ u. Passes most longer a u b z f in subst P (sym e) t
 
-pub at_place : {X Y : Type 0} {longer : TokenKind → Bool} {a : X → List Goal} {b : Y → List Goal} {from to : List Word} {f : Y → X} →
-    from ≡ to → Passes longer a to b to f → Passes longer a from b from f
-at_place {longer = longer} {a = a} {b = b} {f = f} e t = let P : List Word → Type 0 = λ u. Passes longer a u b u f in subst P (sym e) t
+pub at_place : {most : Limits} {X Y : Type 0} {longer : TokenKind → Bool} {a : X → List Goal} {b : Y → List Goal} {from to : List Word} {f : Y → X} →
+    from ≡ to → Passes most longer a to b to f → Passes most longer a from b from f
+at_place {most = most} {longer = longer} {a = a} {b = b} {f = f} e t = let P : List Word → Type 0 = λ u. Passes most longer a u b u f in subst P (sym e) t
 
-pub refused_at : {X : Type 0} {longer : TokenKind → Bool} {a : X → List Goal} {from to : List Word} {why : Cause} →
-    from ≡ to → IsRefused longer a to to why → IsRefused longer a from from why
-refused_at {longer = longer} {a = a} {why = why} e r = let P : List Word → Type 0 = λ u. IsRefused longer a u u why in subst P (sym e) r
+pub refused_at : {most : Limits} {X : Type 0} {longer : TokenKind → Bool} {a : X → List Goal} {from to : List Word} {why : Cause} →
+    from ≡ to → IsRefused most longer a to to why → IsRefused most longer a from from why
+refused_at {most = most} {longer = longer} {a = a} {why = why} e r = let P : List Word → Type 0 = λ u. IsRefused most longer a u u why in subst P (sym e) r
 
-pub remade : {X Y : Type 0} {longer : TokenKind → Bool} {a : X → List Goal} {b : Y → List Goal} {x y : List Word} {f g : Y → X} →
-    ((u : Y) → f u ≡ g u) → Passes longer a x b y f → Passes longer a x b y g
+pub remade : {most : Limits} {X Y : Type 0} {longer : TokenKind → Bool} {a : X → List Goal} {b : Y → List Goal} {x y : List Word} {f g : Y → X} →
+    ((u : Y) → f u ≡ g u) → Passes most longer a x b y f → Passes most longer a x b y g
 remade {a = a} e s = record {
   front = s.front;
   whole = s.whole;
@@ -163,12 +164,12 @@ remade {a = a} e s = record {
   forth = λ l v gs w o h d. let m = s.forth l v gs w o h d in (m.0, m.1 ∙ e m.0, m.2);
 }
 
-pub fault_after : {X Y : Type 0} {outer inner : TokenKind → Bool} {a : X → List Goal} {b : Y → List Goal} {f : Y → X} (words : List Word) (at next : ℕ) (fault : Fault) →
-    Within inner outer → Passes outer a (drop at words) b (drop next words) f → Gives inner b words next (Err fault) → Gives outer a words at (Err fault)
+pub fault_after : {X Y : Type 0} {outer inner : TokenKind → Bool} {a : X → List Goal} {b : Y → List Goal} {f : Y → X} (words : Readable) (at next : ℕ) (fault : Fault) →
+    Within inner outer → Passes words.limits outer a (drop at words.words) b (drop next words.words) f → Gives inner b words next (Err fault) → Gives outer a words at (Err fault)
 fault_after words at next Memory n s r = tt
 fault_after words at next (Refused i why) n s r = refused_after n s r
 
-pub fault_first : {X Y : Type 0} {inner outer : TokenKind → Bool} (a : X → List Goal) {b : X → Y → List Goal} {v : List Word} (words : List Word) (at : ℕ) (fault : Fault) →
-    Behind inner outer b → Spelled b v → Gives inner a words at (Err fault) → Gives {X = X × Y} outer (λ p. a p.0 ++ b p.0 p.1) words at (Err fault)
+pub fault_first : {X Y : Type 0} {inner outer : TokenKind → Bool} (a : X → List Goal) {b : X → Y → List Goal} {v : List Word} (words : Readable) (at : ℕ) (fault : Fault) →
+    Behind inner outer b → Spelled words.limits b v → Gives inner a words at (Err fault) → Gives {X = X × Y} outer (λ p. a p.0 ++ b p.0 p.1) words at (Err fault)
 fault_first a words at Memory n f r = tt
 fault_first a words at (Refused i why) n f r = refused_first n f r

@@ -47,7 +47,7 @@ signed_forth l c at e d gs j w h (expands _ (pat_bits c_0 at_0 e_0 d_0 sgs_0 q0 
 number_forth : {l : Limits} {n : Word} {gs : List Goal} {i : Word} {w : List Word} → Spells l (The n ∷ gs) (i ∷ w) → (i ≡ n) × Spells l gs w
 number_forth (this z) = (refl, z)
 
-pub on_signed : (c : Context) (j i : Word) (rest : List Word) (z : ℤ) → is_sign j.kind ≡ true → i.kind ≡ k.Integer → Signed j.kind i.number z → Passes {X = Placed Pattern} closed (pat_in c) (j ∷ (i ∷ rest)) nothing rest (λ u. record { at = j.at; tree = p.Int j.at z; height = 1 })
+pub on_signed : {most : Limits} (c : Context) (j i : Word) (rest : List Word) (z : ℤ) → is_sign j.kind ≡ true → i.kind ≡ k.Integer → Signed j.kind i.number z → Passes most {X = Placed Pattern} closed (pat_in c) (j ∷ (i ∷ rest)) nothing rest (λ u. record { at = j.at; tree = p.Int j.at z; height = 1 })
 on_signed c j i rest z h b s = record {
   front = j ∷ (i ∷ []);
   whole = refl;
@@ -71,7 +71,7 @@ no_number : (l : Limits) (n : Word) (gs : List Goal) (rest w : List Word) → n.
 no_number l n gs _ w i no_mark_end s (this z) = s
 no_number l n gs _ w i (no_mark j rest f) s (this z) = f (ap (λ v. v.kind) (sym s) ∙ i)
 
-pub sign_alone : (c : Context) (j : Word) (rest : List Word) → is_sign j.kind ≡ true → NoMark k.Integer rest → IsRefused {X = Placed Pattern} closed (pat_in c) (j ∷ rest) rest Syntax
+pub sign_alone : {most : Limits} (c : Context) (j : Word) (rest : List Word) → is_sign j.kind ≡ true → NoMark k.Integer rest → IsRefused most {X = Placed Pattern} closed (pat_in c) (j ∷ rest) rest Syntax
 sign_alone c j rest h n = let a = signed_some j.kind j.kind refl h in record {
   front = j ∷ [];
   whole = refl;
@@ -101,8 +101,8 @@ paren_forth l c at e d gs j w h (expands _ (pat_tuple c_0 at_0 e_0 d_0 ys_0 dys_
 paren_forth l c at e d gs j w h (expands _ (pat_list c_0 at_0 e_0 d_0 ys_0 tail_0 dys_0 q0 q1 q2) (begins t kk ka z)) = cc
 paren_forth l c at e d gs j w h (expands _ (pat_bits c_0 at_0 e_0 d_0 sgs_0 q0 q1) (begins t kk ka z)) = cc
 
-pub on_paren : (c : Context) (j : Word) (rest : List Word) → j.kind ≡ k.LeftParen → c.open_ < 64 →
-    Passes {X = Placed Pattern} {Y = Placed Pattern × Unit {0}} closed (pat_in c) (j ∷ rest) (λ q. pattern_in (inside c) q.0 ++ mark_in k.RightParen q.1) rest (λ q. record { at = j.at; tree = q.0.tree; height = q.0.height })
+pub on_paren : {most : Limits} (c : Context) (j : Word) (rest : List Word) → j.kind ≡ k.LeftParen → c.open_ < most.brackets →
+    Passes most {X = Placed Pattern} {Y = Placed Pattern × Unit {0}} closed (pat_in c) (j ∷ rest) (λ q. pattern_in (inside c) q.0 ++ mark_in k.RightParen q.1) rest (λ q. record { at = j.at; tree = q.0.tree; height = q.0.height })
 on_paren c j rest h b = record {
   front = j ∷ [];
   whole = refl;
@@ -146,7 +146,7 @@ pat_spells l c gs w d = expands _ (pat_wild c _ _ _ refl refl) (begins (mark_wor
 pub pattern_spells : (l : Limits) (c : Context) (gs : List Goal) (w : List Word) → Spells l gs w → Spells l (pattern_in c some_pattern ++ gs) (mark_word k.Underscore ∷ w)
 pattern_spells l c gs w d = expands _ (pattern c _ _ _ _ _) (pat_spells l c _ w (expands _ (not_same c _ _ _ _ _ refl refl) d))
 
-pub pat_refused : (c : Context) (rest : List Word) → NoPattern rest → IsRefused {X = Placed Pattern} closed (pat_in c) rest rest Syntax
+pub pat_refused : {most : Limits} (c : Context) (rest : List Word) → NoPattern rest → IsRefused most {X = Placed Pattern} closed (pat_in c) rest rest Syntax
 pat_refused c rest n = record {
   front = [];
   whole = refl;
@@ -172,37 +172,37 @@ bracket_depth l c at e d gs j w h (expands _ (pat_tuple c_0 at_0 e_0 d_0 ys_0 dy
 bracket_depth l c at e d gs j w h (expands _ (pat_list c_0 at_0 e_0 d_0 ys_0 tail_0 dys_0 q0 q1 q2) (begins t kk ka z)) = q0
 bracket_depth l c at e d gs j w h (expands _ (pat_bits c_0 at_0 e_0 d_0 sgs_0 q0 q1) (begins t kk ka z)) = q0
 
-stops_bracket : (c : Context) (j : Word) (rest : List Word) → opens_pattern j.kind ≡ true → 64 ≤ c.open_ → (l : Limits) → l.brackets ≡ 64 → (r : Placed Pattern) (gs : List Goal) (w : List Word) → SameHead w (j ∷ rest) → Spells l (pat_in c r ++ gs) w → ⊥
-stops_bracket c j rest h b l i r gs [] s d = s
-stops_bracket c j rest h b l i r gs (t ∷ w) s d = let a : c.open_ < l.brackets = bracket_depth l c r.at r.tree r.height gs t w (ap (λ v. opens_pattern v.kind) s ∙ h) d in omega arith
+stops_bracket : (most : Limits) (c : Context) (j : Word) (rest : List Word) → opens_pattern j.kind ≡ true → most.brackets ≤ c.open_ → (l : Limits) → l.brackets ≡ most.brackets → (r : Placed Pattern) (gs : List Goal) (w : List Word) → SameHead w (j ∷ rest) → Spells l (pat_in c r ++ gs) w → ⊥
+stops_bracket most c j rest h b l i r gs [] s d = s
+stops_bracket most c j rest h b l i r gs (t ∷ w) s d = let a : c.open_ < l.brackets = bracket_depth l c r.at r.tree r.height gs t w (ap (λ v. opens_pattern v.kind) s ∙ h) d in omega arith
 
 -- A token with which a pattern begins, at limits where it fits.
-pub record Begun (c : Context) (j : Word) : Type 0 where
+pub record Begun (most : Limits) (c : Context) (j : Word) : Type 0 where
   pub tree : Placed Pattern
   pub more : List Word
-  pub spelled : (gs : List Goal) (w : List Word) → Spells (deeper (c.deep + 1) (c.open_ + 1)) gs w → Spells (deeper (c.deep + 1) (c.open_ + 1)) (pat_in c tree ++ gs) (j ∷ (more ++ w))
+  pub spelled : (gs : List Goal) (w : List Word) → Spells (deeper most (c.deep + 1) (c.open_ + 1)) gs w → Spells (deeper most (c.deep + 1) (c.open_ + 1)) (pat_in c tree ++ gs) (j ∷ (more ++ w))
 
-begun_sign : (c : Context) (j : Word) → is_sign j.kind ≡ true → Begun c j
+begun_sign : {most : Limits} (c : Context) (j : Word) → is_sign j.kind ≡ true → Begun most c j
 begun_sign c j h = let a = signed_some j.kind j.kind refl h in record {
   tree = record { at = j.at; tree = p.Int j.at a.0; height = 1 };
   more = some_number ∷ [];
   spelled = λ gs w d. expands _ (pat_signed c _ _ _ j some_number a.0 refl refl a.1 refl refl) (this (this d));
 }
 
-pub begun : (c : Context) (j : Word) (kind : TokenKind) → j.kind ≡ kind → IsTrue (begins_pattern kind) → Begun c j
-begun c j k.Variable h b = record { tree = record { at = j.at; tree = p.Var j.at j.chars; height = 1 }; more = []; spelled = λ gs w d. expands _ (pat_variable c _ _ _ j h refl refl refl) (this d) }
-begun c j k.Underscore h b = record { tree = record { at = j.at; tree = p.Wild j.at; height = 1 }; more = []; spelled = λ gs w d. expands _ (pat_wild c _ _ _ refl refl) (begins j h refl d) }
-begun c j k.Integer h b = record { tree = record { at = j.at; tree = p.Int j.at (pos j.number); height = 1 }; more = []; spelled = λ gs w d. expands _ (pat_integer c _ _ _ j h refl refl refl) (this d) }
-begun c j k.Plus h b = begun_sign c j (ap is_sign h)
-begun c j k.Minus h b = begun_sign c j (ap is_sign h)
-begun c j k.Character h b = record { tree = record { at = j.at; tree = p.Char j.at j.number; height = 1 }; more = []; spelled = λ gs w d. expands _ (pat_character c _ _ _ j h refl refl refl) (this d) }
-begun c j k.Atom h b = record { tree = record { at = j.at; tree = p.Atom j.at j.number; height = 1 }; more = []; spelled = λ gs w d. expands _ (pat_atom c _ _ _ j h refl refl refl) (this d) }
-begun c j k.Str h b = record { tree = record { at = j.at; tree = p.Str j.at j.chars; height = 1 }; more = []; spelled = λ gs w d. expands _ (pat_string c _ _ _ j h refl refl refl) (this d) }
-begun c j k.LeftParen h b = record { tree = record { at = j.at; tree = p.Wild some_place; height = 1 }; more = mark_word k.Underscore ∷ (mark_word k.RightParen ∷ []); spelled = λ gs w d. expands _ (pat_paren c _ _ _ some_place (omega arith)) (begins j h refl (pattern_spells (deeper (c.deep + 1) (c.open_ + 1)) (inside c) (Mark k.RightParen ∷ gs) (mark_word k.RightParen ∷ w) (takes (mark_word k.RightParen) refl d))) }
-begun c j k.LeftBrace h b = record { tree = record { at = j.at; tree = p.Tuple j.at []; height = 0 + 1 }; more = mark_word k.RightBrace ∷ []; spelled = λ gs w d. expands _ (pat_tuple c _ _ _ [] 0 (omega arith) refl refl) (begins j h refl (expands _ (no_patterns k.RightBrace _ 0 refl) (takes (mark_word k.RightBrace) refl d))) }
-begun c j k.LeftBracket h b = record { tree = record { at = j.at; tree = p.List j.at [] []; height = 0 + 1 }; more = mark_word k.RightBracket ∷ []; spelled = λ gs w d. expands _ (pat_list c _ _ _ [] [] 0 (omega arith) refl refl) (begins j h refl (expands _ (no_pattern_list _ 0 refl) (takes (mark_word k.RightBracket) refl d))) }
-begun c j k.LeftBits h b = record { tree = record { at = j.at; tree = p.Bits j.at []; height = 1 }; more = mark_word k.RightBits ∷ []; spelled = λ gs w d. expands _ (pat_bits c _ _ _ [] (omega arith) refl) (begins j h refl (expands _ (no_pattern_bits c 1 refl) (takes (mark_word k.RightBits) refl d))) }
-begun c j _ h b = cc
+pub begun : {most : Limits} (c : Context) (j : Word) (kind : TokenKind) → j.kind ≡ kind → IsTrue (begins_pattern kind) → Begun most c j
+begun {most = most} c j k.Variable h b = record { tree = record { at = j.at; tree = p.Var j.at j.chars; height = 1 }; more = []; spelled = λ gs w d. expands _ (pat_variable c _ _ _ j h refl refl refl) (this d) }
+begun {most = most} c j k.Underscore h b = record { tree = record { at = j.at; tree = p.Wild j.at; height = 1 }; more = []; spelled = λ gs w d. expands _ (pat_wild c _ _ _ refl refl) (begins j h refl d) }
+begun {most = most} c j k.Integer h b = record { tree = record { at = j.at; tree = p.Int j.at (pos j.number); height = 1 }; more = []; spelled = λ gs w d. expands _ (pat_integer c _ _ _ j h refl refl refl) (this d) }
+begun {most = most} c j k.Plus h b = begun_sign c j (ap is_sign h)
+begun {most = most} c j k.Minus h b = begun_sign c j (ap is_sign h)
+begun {most = most} c j k.Character h b = record { tree = record { at = j.at; tree = p.Char j.at j.number; height = 1 }; more = []; spelled = λ gs w d. expands _ (pat_character c _ _ _ j h refl refl refl) (this d) }
+begun {most = most} c j k.Atom h b = record { tree = record { at = j.at; tree = p.Atom j.at j.number; height = 1 }; more = []; spelled = λ gs w d. expands _ (pat_atom c _ _ _ j h refl refl refl) (this d) }
+begun {most = most} c j k.Str h b = record { tree = record { at = j.at; tree = p.Str j.at j.chars; height = 1 }; more = []; spelled = λ gs w d. expands _ (pat_string c _ _ _ j h refl refl refl) (this d) }
+begun {most = most} c j k.LeftParen h b = record { tree = record { at = j.at; tree = p.Wild some_place; height = 1 }; more = mark_word k.Underscore ∷ (mark_word k.RightParen ∷ []); spelled = λ gs w d. expands _ (pat_paren c _ _ _ some_place (omega arith)) (begins j h refl (pattern_spells (deeper most (c.deep + 1) (c.open_ + 1)) (inside c) (Mark k.RightParen ∷ gs) (mark_word k.RightParen ∷ w) (takes (mark_word k.RightParen) refl d))) }
+begun {most = most} c j k.LeftBrace h b = record { tree = record { at = j.at; tree = p.Tuple j.at []; height = 0 + 1 }; more = mark_word k.RightBrace ∷ []; spelled = λ gs w d. expands _ (pat_tuple c _ _ _ [] 0 (omega arith) refl refl) (begins j h refl (expands _ (no_patterns k.RightBrace _ 0 refl) (takes (mark_word k.RightBrace) refl d))) }
+begun {most = most} c j k.LeftBracket h b = record { tree = record { at = j.at; tree = p.List j.at [] []; height = 0 + 1 }; more = mark_word k.RightBracket ∷ []; spelled = λ gs w d. expands _ (pat_list c _ _ _ [] [] 0 (omega arith) refl refl) (begins j h refl (expands _ (no_pattern_list _ 0 refl) (takes (mark_word k.RightBracket) refl d))) }
+begun {most = most} c j k.LeftBits h b = record { tree = record { at = j.at; tree = p.Bits j.at []; height = 1 }; more = mark_word k.RightBits ∷ []; spelled = λ gs w d. expands _ (pat_bits c _ _ _ [] (omega arith) refl) (begins j h refl (expands _ (no_pattern_bits c 1 refl) (takes (mark_word k.RightBits) refl d))) }
+begun {most = most} c j _ h b = cc
 
 opens_begins : (kind : TokenKind) → opens_pattern kind ≡ true → IsTrue (begins_pattern kind)
 opens_begins k.LeftParen h = refl
@@ -211,17 +211,17 @@ opens_begins k.LeftBracket h = refl
 opens_begins k.LeftBits h = refl
 opens_begins _ h = cc
 
-pub bracket_too_deep : (c : Context) (j : Word) (rest : List Word) → opens_pattern j.kind ≡ true → 64 ≤ c.open_ → IsRefused {X = Placed Pattern} closed (pat_in c) (j ∷ rest) (j ∷ rest) TooDeep
-bracket_too_deep c j rest h b = let g : Begun c j = begun c j j.kind refl (opens_begins j.kind h) in record {
+pub bracket_too_deep : {most : Limits} (c : Context) (j : Word) (rest : List Word) → opens_pattern j.kind ≡ true → most.brackets ≤ c.open_ → IsRefused most {X = Placed Pattern} closed (pat_in c) (j ∷ rest) (j ∷ rest) TooDeep
+bracket_too_deep {most = most} c j rest h b = let g : Begun most c j = begun c j j.kind refl (opens_begins j.kind h) in record {
   front = [];
   whole = refl;
   tree = some_pattern;
   more = mark_word k.Underscore ∷ [];
   goes_on = λ l v gs w d. pat_spells l c gs w d;
-  stops = λ l i r gs w f s d. stops_bracket c j rest h b l i.brackets r gs w s d;
+  stops = λ l i r gs w f s d. stops_bracket most c j rest h b l i.brackets r gs w s d;
   excused = record {
-    limits = deeper (c.deep + 1) (c.open_ + 1);
-    wide = deeper_wide (c.deep + 1) (c.open_ + 1);
+    limits = deeper most (c.deep + 1) (c.open_ + 1);
+    wide = deeper_wide most (c.deep + 1) (c.open_ + 1);
     allows = (refl, refl);
     first = j;
     behind = rest;

@@ -46,7 +46,7 @@ end_forth : (l : Limits) (close : TokenKind) (c : Context) (ys : List Pattern) (
 end_forth l close c _ d gs j w n h (expands _ (no_patterns close_0 c_0 d_0 q0) (takes t kk z)) = (refl, q0, z)
 end_forth l close c _ d gs j w n h (expands _ (patterns close_0 c_0 ay y dy ys dys d_0 q0 q1) z) = absurd (no_first n.begins h (first_pattern l c ay y dy (Of (MorePatterns close c ys dys) ∷ gs) j w z))
 
-pub on_no_patterns : (close : TokenKind) (c : Context) (j : Word) (rest : List Word) → ClosesPatterns close → j.kind ≡ close → Passes {X = List Pattern × ℕ} closed (patterns_in close c) (j ∷ rest) nothing rest (λ u. ([], 0))
+pub on_no_patterns : {most : Limits} (close : TokenKind) (c : Context) (j : Word) (rest : List Word) → ClosesPatterns close → j.kind ≡ close → Passes most {X = List Pattern × ℕ} closed (patterns_in close c) (j ∷ rest) nothing rest (λ u. ([], 0))
 on_no_patterns close c j rest n h = record {
   front = j ∷ [];
   whole = refl;
@@ -67,7 +67,7 @@ patterns_forth l close c _ d gs rest w n s (expands _ (patterns close_0 c_0 ay y
 patterns_forth l close c _ d gs _ w no_mark_end s (expands _ (no_patterns close_0 c_0 d_0 q0) (takes t kk z)) = absurd s
 patterns_forth l close c _ d gs _ w (no_mark j rest n) s (expands _ (no_patterns close_0 c_0 d_0 q0) (takes t kk z)) = absurd (n (ap (λ v. v.kind) (sym s) ∙ kk))
 
-pub on_patterns : (close : TokenKind) (c : Context) (rest : List Word) → c.deep ≤ 256 → NoMark close rest → Passes {X = List Pattern × ℕ} {Y = Placed Pattern × (List Pattern × ℕ)} closed (patterns_in close c) rest (pattern_and_more close c) rest with_more
+pub on_patterns : {most : Limits} (close : TokenKind) (c : Context) (rest : List Word) → c.deep ≤ most.trees → NoMark close rest → Passes most {X = List Pattern × ℕ} {Y = Placed Pattern × (List Pattern × ℕ)} closed (patterns_in close c) rest (pattern_and_more close c) rest with_more
 on_patterns close c rest b n = record {
   front = [];
   whole = refl;
@@ -80,7 +80,7 @@ comma_forth : (l : Limits) (close : TokenKind) (c : Context) (ys : List Pattern)
 comma_forth l close c _ d gs j w n h (expands _ (more_patterns close_0 c_0 ay y dy ys dys d_0 q0) (takes t kk z)) = ((record { at = ay; tree = y; height = dy }, (ys, dys)), refl, q0, z)
 comma_forth l close c _ d gs j w n h (expands _ (end_patterns close_0 c_0 d_0 q0) (takes t kk z)) = absurd (n.comma (sym kk ∙ h))
 
-pub on_comma : (close : TokenKind) (c : Context) (j : Word) (rest : List Word) → ClosesPatterns close → j.kind ≡ k.Comma → Passes {X = List Pattern × ℕ} {Y = Placed Pattern × (List Pattern × ℕ)} closed (more_patterns_in close c) (j ∷ rest) (pattern_and_more close c) rest with_more
+pub on_comma : {most : Limits} (close : TokenKind) (c : Context) (j : Word) (rest : List Word) → ClosesPatterns close → j.kind ≡ k.Comma → Passes most {X = List Pattern × ℕ} {Y = Placed Pattern × (List Pattern × ℕ)} closed (more_patterns_in close c) (j ∷ rest) (pattern_and_more close c) rest with_more
 on_comma close c j rest n h = record {
   front = j ∷ [];
   whole = refl;
@@ -92,7 +92,7 @@ close_forth : (l : Limits) (close : TokenKind) (c : Context) (ys : List Pattern)
 close_forth l close c _ d gs j w n h (expands _ (more_patterns close_0 c_0 ay y dy ys dys d_0 q0) (takes t kk z)) = absurd (n.comma (sym h ∙ kk))
 close_forth l close c _ d gs j w n h (expands _ (end_patterns close_0 c_0 d_0 q0) (takes t kk z)) = (refl, q0, z)
 
-pub on_end : (close : TokenKind) (c : Context) (j : Word) (rest : List Word) → ClosesPatterns close → j.kind ≡ close → Passes {X = List Pattern × ℕ} closed (more_patterns_in close c) (j ∷ rest) nothing rest (λ u. ([], 0))
+pub on_end : {most : Limits} (close : TokenKind) (c : Context) (j : Word) (rest : List Word) → ClosesPatterns close → j.kind ≡ close → Passes most {X = List Pattern × ℕ} closed (more_patterns_in close c) (j ∷ rest) nothing rest (λ u. ([], 0))
 on_end close c j rest n h = record {
   front = j ∷ [];
   whole = refl;
@@ -106,7 +106,7 @@ more_stops l close c _ d gs _ w (no_mark j rest a) b s (expands _ (more_patterns
 more_stops l close c _ d gs _ w a no_mark_end s (expands _ (end_patterns close_0 c_0 d_0 q0) (takes t kk z)) = s
 more_stops l close c _ d gs _ w a (no_mark j rest b) s (expands _ (end_patterns close_0 c_0 d_0 q0) (takes t kk z)) = b (ap (λ v. v.kind) (sym s) ∙ kk)
 
-pub more_refused : (close : TokenKind) (c : Context) (rest : List Word) → NoMark k.Comma rest → NoMark close rest → IsRefused {X = List Pattern × ℕ} closed (more_patterns_in close c) rest rest Syntax
+pub more_refused : {most : Limits} (close : TokenKind) (c : Context) (rest : List Word) → NoMark k.Comma rest → NoMark close rest → IsRefused most {X = List Pattern × ℕ} closed (more_patterns_in close c) rest rest Syntax
 more_refused close c rest a b = record {
   front = [];
   whole = refl;
@@ -124,5 +124,5 @@ more_lengthens l close c _ d gs j w n h (expands _ (end_patterns close_0 c_0 d_0
 pub behind_pattern : (close : TokenKind) (c : Context) → ClosesPatterns close → Behind {X = Placed Pattern} {Y = List Pattern × ℕ} (goes_same) closed (λ p. more_patterns_in close c)
 behind_pattern close c n = record { behind = λ l p q gs f t w h d. more_lengthens l close c q.0 q.1 gs t w n h d }
 
-pub more_spelled : (close : TokenKind) (c : Context) → Spelled {X = Placed Pattern} {Y = List Pattern × ℕ} (λ p. more_patterns_in close c) (mark_word close ∷ [])
+pub more_spelled : {most : Limits} (close : TokenKind) (c : Context) → Spelled most {X = Placed Pattern} {Y = List Pattern × ℕ} (λ p. more_patterns_in close c) (mark_word close ∷ [])
 more_spelled close c = record { tree = λ p. ([], 0); spelled = λ l v p gs w d. expands _ (end_patterns close c 0 refl) (takes (mark_word close) refl d) }

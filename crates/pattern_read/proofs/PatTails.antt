@@ -26,7 +26,7 @@ pat_and_same c q = pat_in c q.0 ++ same_in c q.0 q.1
 pattern_forth : (l : Limits) (c : Context) (at : Span) (e : Pattern) (d : ℕ) (gs : List Goal) (w : List Word) → Spells l (Of (APattern c at e d) ∷ gs) w → (y : Pattern × ℕ) × Spells l (Of (Pat c at y.0 y.1) ∷ Of (SameTail c at y.0 y.1 e d) ∷ gs) w
 pattern_forth l c at e d gs w (expands _ (pattern c_0 at_0 e_0 d_0 y dy) z) = ((y, dy), z)
 
-pub on_pattern : (c : Context) (rest : List Word) → Passes {X = Placed Pattern} {Y = Placed Pattern × (Pattern × ℕ)} goes_same (pattern_in c) rest (pat_and_same c) rest (λ q. record { at = q.0.at; tree = q.1.0; height = q.1.1 })
+pub on_pattern : {most : Limits} (c : Context) (rest : List Word) → Passes most {X = Placed Pattern} {Y = Placed Pattern × (Pattern × ℕ)} goes_same (pattern_in c) rest (pat_and_same c) rest (λ q. record { at = q.0.at; tree = q.1.0; height = q.1.1 })
 on_pattern c rest = record {
   front = [];
   whole = refl;
@@ -37,7 +37,7 @@ on_pattern c rest = record {
 pub behind_pat : (c : Context) → Behind {X = Placed Pattern} {Y = Pattern × ℕ} closed goes_same (λ y. same_in c y)
 behind_pat c = behind_closed goes_same (λ y. same_in c y)
 
-pub same_spelled : (c : Context) → Spelled {X = Placed Pattern} {Y = Pattern × ℕ} (λ y. same_in c y) []
+pub same_spelled : {most : Limits} (c : Context) → Spelled most {X = Placed Pattern} {Y = Pattern × ℕ} (λ y. same_in c y) []
 same_spelled c = record { tree = λ y. (y.tree, y.height); spelled = λ l v y gs w d. expands _ (not_same c _ _ _ _ _ refl refl) d }
 
 -- ---- Chains
@@ -47,7 +47,7 @@ alone_forth l c at y dy e d gs rest w n s (expands _ (not_same c_0 at_0 y_0 dy_0
 alone_forth l c at y dy e d gs _ w no_mark_end s (expands _ (same c_0 at_0 y_0 dy_0 e_0 d_0 az r dr rs drs q0 q1 q2) (takes t i z)) = absurd s
 alone_forth l c at y dy e d gs _ w (no_mark j rest n) s (expands _ (same c_0 at_0 y_0 dy_0 e_0 d_0 az r dr rs drs q0 q1 q2) (takes t i z)) = absurd (n (ap (λ v. v.kind) (sym s) ∙ i))
 
-pub on_alone : (c : Context) (y : Placed Pattern) (rest : List Word) → NoMark k.Match rest → Passes {X = Pattern × ℕ} goes_same (same_in c y) rest nothing rest (λ u. (y.tree, y.height))
+pub on_alone : {most : Limits} (c : Context) (y : Placed Pattern) (rest : List Word) → NoMark k.Match rest → Passes most {X = Pattern × ℕ} goes_same (same_in c y) rest nothing rest (λ u. (y.tree, y.height))
 on_alone c y rest n = record {
   front = [];
   whole = refl;
@@ -66,8 +66,8 @@ match_forth : (l : Limits) (c : Context) (at : Span) (y : Pattern) (dy : ℕ) (e
 match_forth l c at y dy e d gs j w h o (expands _ (not_same c_0 at_0 y_0 dy_0 e_0 d_0 q0 q1) z) = absurd (o j w (ap goes_same h) z)
 match_forth l c at y dy e d gs j w h o (expands _ (same c_0 at_0 y_0 dy_0 e_0 d_0 az r dr rs drs q0 q1 q2) (takes t i z)) = (q0, (record { at = az; tree = r; height = dr }, (rs, drs)), q1, q2, z)
 
-pub on_match : (c : Context) (y : Placed Pattern) (j : Word) (rest : List Word) → j.kind ≡ k.Match → c.deep + y.height ≤ 256 →
-    Passes {X = Pattern × ℕ} {Y = Placed Pattern × (List Pattern × ℕ)} goes_same (same_in c y) (j ∷ rest) (pat_and_more (under c)) rest (λ q. (p.Same y.at (y.tree ∷ q.0.tree ∷ q.1.0), max y.height (max q.0.height q.1.1) + 1))
+pub on_match : {most : Limits} (c : Context) (y : Placed Pattern) (j : Word) (rest : List Word) → j.kind ≡ k.Match → c.deep + y.height ≤ most.trees →
+    Passes most {X = Pattern × ℕ} {Y = Placed Pattern × (List Pattern × ℕ)} goes_same (same_in c y) (j ∷ rest) (pat_and_more (under c)) rest (λ q. (p.Same y.at (y.tree ∷ q.0.tree ∷ q.1.0), max y.height (max q.0.height q.1.1) + 1))
 on_match c y j rest h b = record {
   front = j ∷ [];
   whole = refl;
@@ -80,7 +80,7 @@ again_forth : (l : Limits) (c : Context) (zs : List Pattern) (d : ℕ) (gs : Lis
 again_forth l c _ d gs j w h o (expands _ (end_same c_0 d_0 q0) z) = absurd (o j w (ap goes_same h) z)
 again_forth l c _ d gs j w h o (expands _ (more_same c_0 az r dr rs drs d_0 q0) (takes t i z)) = ((record { at = az; tree = r; height = dr }, (rs, drs)), refl, q0, z)
 
-pub on_again : (c : Context) (j : Word) (rest : List Word) → j.kind ≡ k.Match → Passes {X = List Pattern × ℕ} {Y = Placed Pattern × (List Pattern × ℕ)} goes_same (more_same_in c) (j ∷ rest) (pat_and_more c) rest (λ q. (q.0.tree ∷ q.1.0, max q.0.height q.1.1))
+pub on_again : {most : Limits} (c : Context) (j : Word) (rest : List Word) → j.kind ≡ k.Match → Passes most {X = List Pattern × ℕ} {Y = Placed Pattern × (List Pattern × ℕ)} goes_same (more_same_in c) (j ∷ rest) (pat_and_more c) rest (λ q. (q.0.tree ∷ q.1.0, max q.0.height q.1.1))
 on_again c j rest h = record {
   front = j ∷ [];
   whole = refl;
@@ -93,7 +93,7 @@ last_forth l c _ d gs rest w n s (expands _ (end_same c_0 d_0 q0) z) = (refl, q0
 last_forth l c _ d gs _ w no_mark_end s (expands _ (more_same c_0 az r dr rs drs d_0 q0) (takes t i z)) = absurd s
 last_forth l c _ d gs _ w (no_mark j rest n) s (expands _ (more_same c_0 az r dr rs drs d_0 q0) (takes t i z)) = absurd (n (ap (λ v. v.kind) (sym s) ∙ i))
 
-pub on_last : (c : Context) (rest : List Word) → NoMark k.Match rest → Passes {X = List Pattern × ℕ} goes_same (more_same_in c) rest nothing rest (λ u. ([], 0))
+pub on_last : {most : Limits} (c : Context) (rest : List Word) → NoMark k.Match rest → Passes most {X = List Pattern × ℕ} goes_same (more_same_in c) rest nothing rest (λ u. ([], 0))
 on_last c rest n = record {
   front = [];
   whole = refl;
@@ -104,31 +104,31 @@ on_last c rest n = record {
 pub behind_same : (c : Context) → Behind {X = Placed Pattern} {Y = List Pattern × ℕ} closed goes_same (λ q. more_same_in c)
 behind_same c = behind_closed goes_same (λ q. more_same_in c)
 
-pub more_same_spelled : (c : Context) → Spelled {X = Placed Pattern} {Y = List Pattern × ℕ} (λ q. more_same_in c) []
+pub more_same_spelled : {most : Limits} (c : Context) → Spelled most {X = Placed Pattern} {Y = List Pattern × ℕ} (λ q. more_same_in c) []
 more_same_spelled c = record { tree = λ q. ([], 0); spelled = λ l v q gs w d. expands _ (end_same c 0 refl) d }
 
-stops_match : (c : Context) (y : Placed Pattern) (j : Word) (rest : List Word) → j.kind ≡ k.Match → 256 < c.deep + y.height → (l : Limits) → l.trees ≡ 256 → (r : Pattern × ℕ) (gs : List Goal) (w : List Word) → Follows l goes_same gs → SameHead w (j ∷ rest) → Spells l (same_in c y r ++ gs) w → ⊥
-stops_match c y j rest h b l i r gs [] o s d = s
-stops_match c y j rest h b l i r gs (t ∷ w) o s d = let m = match_forth l c y.at y.tree y.height r.0 r.1 gs t w (ap (λ v. v.kind) s ∙ h) o d in let a : c.deep + y.height ≤ l.trees = m.0 in omega arith
+stops_match : (most : Limits) (c : Context) (y : Placed Pattern) (j : Word) (rest : List Word) → j.kind ≡ k.Match → most.trees < c.deep + y.height → (l : Limits) → l.trees ≡ most.trees → (r : Pattern × ℕ) (gs : List Goal) (w : List Word) → Follows l goes_same gs → SameHead w (j ∷ rest) → Spells l (same_in c y r ++ gs) w → ⊥
+stops_match most c y j rest h b l i r gs [] o s d = s
+stops_match most c y j rest h b l i r gs (t ∷ w) o s d = let m = match_forth l c y.at y.tree y.height r.0 r.1 gs t w (ap (λ v. v.kind) s ∙ h) o d in let a : c.deep + y.height ≤ l.trees = m.0 in omega arith
 
-pub match_too_deep : (c : Context) (y : Placed Pattern) (j : Word) (rest : List Word) → j.kind ≡ k.Match → 256 < c.deep + y.height → IsRefused {X = Pattern × ℕ} goes_same (same_in c y) (j ∷ rest) (j ∷ rest) TooDeep
-match_too_deep c y j rest h b = record {
+pub match_too_deep : {most : Limits} (c : Context) (y : Placed Pattern) (j : Word) (rest : List Word) → j.kind ≡ k.Match → most.trees < c.deep + y.height → IsRefused most {X = Pattern × ℕ} goes_same (same_in c y) (j ∷ rest) (j ∷ rest) TooDeep
+match_too_deep {most = most} c y j rest h b = record {
   front = [];
   whole = refl;
   tree = (y.tree, y.height);
   more = [];
   goes_on = λ l v gs w d. expands _ (not_same c _ _ _ _ _ refl refl) d;
-  stops = λ l i r gs w o s d. stops_match c y j rest h b l i.trees r gs w o s d;
+  stops = λ l i r gs w o s d. stops_match most c y j rest h b l i.trees r gs w o s d;
   excused = record {
-    limits = deeper (c.deep + y.height) 0;
-    wide = deeper_wide (c.deep + y.height) 0;
+    limits = deeper most (c.deep + y.height) 0;
+    wide = deeper_wide most (c.deep + y.height) 0;
     allows = (refl, refl);
     first = j;
     behind = rest;
     begins = refl;
     tree = (p.Same y.at (y.tree ∷ some_pattern.tree ∷ []), max y.height (max 1 0) + 1);
     more = mark_word k.Underscore ∷ [];
-    goes_on = λ gs w d. expands _ (same c _ _ _ _ _ some_pattern.at some_pattern.tree 1 [] 0 (omega arith) refl refl) (takes j h (pat_spells (deeper (c.deep + y.height) 0) (under c) (Of (MoreSame (under c) [] 0) ∷ gs) w (expands _ (end_same (under c) 0 refl) d)));
+    goes_on = λ gs w d. expands _ (same c _ _ _ _ _ some_pattern.at some_pattern.tree 1 [] 0 (omega arith) refl refl) (takes j h (pat_spells (deeper most (c.deep + y.height) 0) (under c) (Of (MoreSame (under c) [] 0) ∷ gs) w (expands _ (end_same (under c) 0 refl) d)));
   };
 }
 
@@ -137,7 +137,7 @@ match_too_deep c y j rest h b = record {
 pattern_none : (l : Limits) (c : Context) (at : Span) (e : Pattern) (d : ℕ) (gs : List Goal) (rest w : List Word) → NoPattern rest → SameHead w rest → Spells l (Of (APattern c at e d) ∷ gs) w → ⊥
 pattern_none l c at e d gs rest w n s (expands _ (pattern c_0 at_0 e_0 d_0 y dy) z) = pat_none l c at y dy (Of (SameTail c at y dy e d) ∷ gs) rest w n s z
 
-begun_pattern : (c : Context) (j : Word) (g : Begun c j) (gs : List Goal) (w : List Word) → Spells (deeper (c.deep + 1) (c.open_ + 1)) gs w → Spells (deeper (c.deep + 1) (c.open_ + 1)) (pattern_in c g.tree ++ gs) (j ∷ (g.more ++ w))
+begun_pattern : {most : Limits} (c : Context) (j : Word) (g : Begun most c j) (gs : List Goal) (w : List Word) → Spells (deeper most (c.deep + 1) (c.open_ + 1)) gs w → Spells (deeper most (c.deep + 1) (c.open_ + 1)) (pattern_in c g.tree ++ gs) (j ∷ (g.more ++ w))
 begun_pattern c j g gs w d = expands _ (pattern c _ _ _ _ _) (g.spelled (Of (SameTail c g.tree.at g.tree.tree g.tree.height g.tree.tree g.tree.height) ∷ gs) w (expands _ (not_same c _ _ _ _ _ refl refl) d))
 
 head_not : {kind : TokenKind} {j : Word} {rest : List Word} → NoMark kind (j ∷ rest) → j.kind ≡ kind → ⊥
@@ -148,20 +148,20 @@ patterns_depth l close c _ d gs rest w n s (expands _ (patterns close_0 c_0 ay y
 patterns_depth l close c _ d gs _ w no_mark_end s (expands _ (no_patterns close_0 c_0 d_0 q0) (takes t i z)) = absurd s
 patterns_depth l close c _ d gs _ w (no_mark j rest n) s (expands _ (no_patterns close_0 c_0 d_0 q0) (takes t i z)) = absurd (n (ap (λ v. v.kind) (sym s) ∙ i))
 
-deep_not : (c : Context) (l : Limits) → 256 < c.deep → l.trees ≡ 256 → c.deep ≤ l.trees → ⊥
-deep_not c l b i a = omega arith
+deep_not : (most : Limits) (c : Context) (l : Limits) → most.trees < c.deep → l.trees ≡ most.trees → c.deep ≤ l.trees → ⊥
+deep_not most c l b i a = omega arith
 
-patterns_too_deep : (close : TokenKind) (c : Context) (j : Word) (rest : List Word) → NoMark close (j ∷ rest) → IsTrue (begins_pattern j.kind) → 256 < c.deep → IsRefused {X = List Pattern × ℕ} closed (patterns_in close c) (j ∷ rest) (j ∷ rest) TooDeep
-patterns_too_deep close c j rest n b h = let g : Begun c j = begun c j j.kind refl b in record {
+patterns_too_deep : {most : Limits} (close : TokenKind) (c : Context) (j : Word) (rest : List Word) → NoMark close (j ∷ rest) → IsTrue (begins_pattern j.kind) → most.trees < c.deep → IsRefused most {X = List Pattern × ℕ} closed (patterns_in close c) (j ∷ rest) (j ∷ rest) TooDeep
+patterns_too_deep {most = most} close c j rest n b h = let g : Begun most c j = begun c j j.kind refl b in record {
   front = [];
   whole = refl;
   tree = ([], 0);
   more = mark_word close ∷ [];
   goes_on = λ l v gs w d. expands _ (no_patterns close c 0 refl) (takes (mark_word close) refl d);
-  stops = λ l i r gs w o s d. deep_not c l h i.trees (patterns_depth l close c r.0 r.1 gs (j ∷ rest) w n s d).0;
+  stops = λ l i r gs w o s d. deep_not most c l h i.trees (patterns_depth l close c r.0 r.1 gs (j ∷ rest) w n s d).0;
   excused = record {
-    limits = deeper (c.deep + 1) (c.open_ + 1);
-    wide = deeper_wide (c.deep + 1) (c.open_ + 1);
+    limits = deeper most (c.deep + 1) (c.open_ + 1);
+    wide = deeper_wide most (c.deep + 1) (c.open_ + 1);
     allows = (refl, refl);
     first = j;
     behind = rest;
@@ -177,7 +177,7 @@ patterns_too_deep close c j rest n b h = let g : Begun c j = begun c j j.kind re
 patterns_none : (l : Limits) (close : TokenKind) (c : Context) (r : List Pattern × ℕ) (gs : List Goal) (rest w : List Word) → NoMark close rest → NoPattern rest → SameHead w rest → Spells l (patterns_in close c r ++ gs) w → ⊥
 patterns_none l close c r gs rest w n b s d = let m = patterns_depth l close c r.0 r.1 gs rest w n s d in pattern_none l c m.1.at m.1.tree m.1.height m.2 rest w b s m.3
 
-patterns_refused : (close : TokenKind) (c : Context) (rest : List Word) → NoMark close rest → NoPattern rest → IsRefused {X = List Pattern × ℕ} closed (patterns_in close c) rest rest Syntax
+patterns_refused : {most : Limits} (close : TokenKind) (c : Context) (rest : List Word) → NoMark close rest → NoPattern rest → IsRefused most {X = List Pattern × ℕ} closed (patterns_in close c) rest rest Syntax
 patterns_refused close c rest n b = record {
   front = [];
   whole = refl;
@@ -188,7 +188,7 @@ patterns_refused close c rest n b = record {
   excused = tt;
 }
 
-pub patterns_first : (close : TokenKind) (c : Context) (rest : List Word) (why : Cause) → FirstToken begins_pattern rest why → NoMark close rest → 256 < c.deep → IsRefused {X = List Pattern × ℕ} closed (patterns_in close c) rest rest why
+pub patterns_first : {most : Limits} (close : TokenKind) (c : Context) (rest : List Word) (why : Cause) → FirstToken begins_pattern rest why → NoMark close rest → most.trees < c.deep → IsRefused most {X = List Pattern × ℕ} closed (patterns_in close c) rest rest why
 patterns_first close c _ _ (only_deeper j rest b) n h = patterns_too_deep close c j rest n b h
 patterns_first close c _ _ at_end n h = patterns_refused close c [] n no_pattern_end
 patterns_first close c _ _ (at_other j rest b) n h = patterns_refused close c (j ∷ rest) n (no_pattern j rest b)
@@ -211,7 +211,7 @@ empty_forth : (l : Limits) (c : Context) (ys tail : List Pattern) (d : ℕ) (gs 
 empty_forth l c _ _ d gs j w h (expands _ (no_pattern_list c_0 d_0 q0) (takes t i z)) = (refl, refl, q0, z)
 empty_forth l c _ tail d gs j w h (expands _ (pattern_list c_0 ay y dy ys tail_0 dys d_0 q0 q1) z) = absurd (pattern_none l c ay y dy (Of (PatternItems c ys tail dys) ∷ gs) (j ∷ w) (j ∷ w) (no_pattern j w (ap begins_pattern h)) refl z)
 
-pub on_empty : (c : Context) (j : Word) (rest : List Word) → j.kind ≡ k.RightBracket → Passes {X = Listed} closed (pattern_list_in c) (j ∷ rest) nothing rest (λ u. (([], []), 0))
+pub on_empty : {most : Limits} (c : Context) (j : Word) (rest : List Word) → j.kind ≡ k.RightBracket → Passes most {X = Listed} closed (pattern_list_in c) (j ∷ rest) nothing rest (λ u. (([], []), 0))
 on_empty c j rest h = record {
   front = j ∷ [];
   whole = refl;
@@ -225,7 +225,7 @@ list_forth l c _ tail d gs rest w n s (expands _ (pattern_list c_0 ay y dy ys ta
 list_forth l c _ _ d gs _ w no_mark_end s (expands _ (no_pattern_list c_0 d_0 q0) (takes t i z)) = absurd s
 list_forth l c _ _ d gs _ w (no_mark j rest n) s (expands _ (no_pattern_list c_0 d_0 q0) (takes t i z)) = absurd (n (ap (λ v. v.kind) (sym s) ∙ i))
 
-pub on_items : (c : Context) (rest : List Word) → c.deep ≤ 256 → NoMark k.RightBracket rest → Passes {X = Listed} {Y = Placed Pattern × Listed} closed (pattern_list_in c) rest (pattern_and_items c) rest (λ q. ((q.0.tree ∷ q.1.0.0, q.1.0.1), max q.0.height q.1.1))
+pub on_items : {most : Limits} (c : Context) (rest : List Word) → c.deep ≤ most.trees → NoMark k.RightBracket rest → Passes most {X = Listed} {Y = Placed Pattern × Listed} closed (pattern_list_in c) rest (pattern_and_items c) rest (λ q. ((q.0.tree ∷ q.1.0.0, q.1.0.1), max q.0.height q.1.1))
 on_items c rest b n = record {
   front = [];
   whole = refl;
@@ -239,7 +239,7 @@ next_forth l c _ tail d gs j w h (expands _ (next_pattern c_0 ay y dy ys tail_0 
 next_forth l c _ _ d gs j w h (expands _ (pattern_tail c_0 ay y d_0) (takes t i z)) = cc
 next_forth l c _ _ d gs j w h (expands _ (end_pattern_list c_0 d_0 q0) (takes t i z)) = cc
 
-pub on_next : (c : Context) (j : Word) (rest : List Word) → j.kind ≡ k.Comma → Passes {X = Listed} {Y = Placed Pattern × Listed} closed (items_in c) (j ∷ rest) (pattern_and_items c) rest (λ q. ((q.0.tree ∷ q.1.0.0, q.1.0.1), max q.0.height q.1.1))
+pub on_next : {most : Limits} (c : Context) (j : Word) (rest : List Word) → j.kind ≡ k.Comma → Passes most {X = Listed} {Y = Placed Pattern × Listed} closed (items_in c) (j ∷ rest) (pattern_and_items c) rest (λ q. ((q.0.tree ∷ q.1.0.0, q.1.0.1), max q.0.height q.1.1))
 on_next c j rest h = record {
   front = j ∷ [];
   whole = refl;
@@ -253,7 +253,7 @@ stop_forth l c _ tail d gs _ w (no_mark j rest n) s (expands _ (next_pattern c_0
 stop_forth l c _ _ d gs rest w n s (expands _ (pattern_tail c_0 ay y d_0) z) = (refl, expands _ (pattern_tail c ay y d) z)
 stop_forth l c _ _ d gs rest w n s (expands _ (end_pattern_list c_0 d_0 q0) z) = (refl, expands _ (end_pattern_list c d q0) z)
 
-pub on_stop : (c : Context) (rest : List Word) → NoMark k.Comma rest → Passes {X = Listed} {Y = List Pattern × ℕ} closed (items_in c) rest (pattern_end_in c) rest (λ r. (([], r.0), r.1))
+pub on_stop : {most : Limits} (c : Context) (rest : List Word) → NoMark k.Comma rest → Passes most {X = Listed} {Y = List Pattern × ℕ} closed (items_in c) rest (pattern_end_in c) rest (λ r. (([], r.0), r.1))
 on_stop c rest n = record {
   front = [];
   whole = refl;
@@ -265,7 +265,7 @@ shut_forth : (l : Limits) (c : Context) (tail : List Pattern) (d : ℕ) (gs : Li
 shut_forth l c _ d gs j w h (expands _ (pattern_tail c_0 ay y d_0) (takes t i z)) = cc
 shut_forth l c _ d gs j w h (expands _ (end_pattern_list c_0 d_0 q0) (takes t i z)) = (refl, q0, z)
 
-pub on_shut : (c : Context) (j : Word) (rest : List Word) → j.kind ≡ k.RightBracket → Passes {X = List Pattern × ℕ} closed (pattern_end_in c) (j ∷ rest) nothing rest (λ u. ([], 0))
+pub on_shut : {most : Limits} (c : Context) (j : Word) (rest : List Word) → j.kind ≡ k.RightBracket → Passes most {X = List Pattern × ℕ} closed (pattern_end_in c) (j ∷ rest) nothing rest (λ u. ([], 0))
 on_shut c j rest h = record {
   front = j ∷ [];
   whole = refl;
@@ -277,7 +277,7 @@ tail_forth : (l : Limits) (c : Context) (tail : List Pattern) (d : ℕ) (gs : Li
 tail_forth l c _ d gs j w h (expands _ (pattern_tail c_0 ay y d_0) (takes t i z)) = (record { at = ay; tree = y; height = d }, refl, refl, z)
 tail_forth l c _ d gs j w h (expands _ (end_pattern_list c_0 d_0 q0) (takes t i z)) = cc
 
-pub on_bar : (c : Context) (j : Word) (rest : List Word) → j.kind ≡ k.Bar → Passes {X = List Pattern × ℕ} {Y = Placed Pattern × Unit {0}} closed (pattern_end_in c) (j ∷ rest) (λ q. pattern_in c q.0 ++ mark_in k.RightBracket q.1) rest (λ q. (q.0.tree ∷ [], q.0.height))
+pub on_bar : {most : Limits} (c : Context) (j : Word) (rest : List Word) → j.kind ≡ k.Bar → Passes most {X = List Pattern × ℕ} {Y = Placed Pattern × Unit {0}} closed (pattern_end_in c) (j ∷ rest) (λ q. pattern_in c q.0 ++ mark_in k.RightBracket q.1) rest (λ q. (q.0.tree ∷ [], q.0.height))
 on_bar c j rest h = record {
   front = j ∷ [];
   whole = refl;
@@ -291,7 +291,7 @@ end_stops l c _ d gs _ w (no_mark j rest a) b s (expands _ (pattern_tail c_0 ay 
 end_stops l c _ d gs _ w a no_mark_end s (expands _ (end_pattern_list c_0 d_0 q0) (takes t i z)) = s
 end_stops l c _ d gs _ w a (no_mark j rest b) s (expands _ (end_pattern_list c_0 d_0 q0) (takes t i z)) = b (ap (λ v. v.kind) (sym s) ∙ i)
 
-pub end_refused : (c : Context) (rest : List Word) → NoMark k.Bar rest → NoMark k.RightBracket rest → IsRefused {X = List Pattern × ℕ} closed (pattern_end_in c) rest rest Syntax
+pub end_refused : {most : Limits} (c : Context) (rest : List Word) → NoMark k.Bar rest → NoMark k.RightBracket rest → IsRefused most {X = List Pattern × ℕ} closed (pattern_end_in c) rest rest Syntax
 end_refused c rest a b = record {
   front = [];
   whole = refl;
@@ -310,20 +310,20 @@ items_lengthen l c _ _ d gs j w h (expands _ (end_pattern_list c_0 d_0 q0) (take
 pub behind_item : (c : Context) → Behind {X = Placed Pattern} {Y = Listed} goes_same closed (λ q. items_in c)
 behind_item c = record { behind = λ l q r gs o t w h d. items_lengthen l c r.0.0 r.0.1 r.1 gs t w h d }
 
-pub items_spelled : (c : Context) → Spelled {X = Placed Pattern} {Y = Listed} (λ q. items_in c) (mark_word k.RightBracket ∷ [])
+pub items_spelled : {most : Limits} (c : Context) → Spelled most {X = Placed Pattern} {Y = Listed} (λ q. items_in c) (mark_word k.RightBracket ∷ [])
 items_spelled c = record { tree = λ q. (([], []), 0); spelled = λ l v q gs w d. expands _ (end_pattern_list c 0 refl) (takes (mark_word k.RightBracket) refl d) }
 
-list_too_deep : (c : Context) (j : Word) (rest : List Word) → NoMark k.RightBracket (j ∷ rest) → IsTrue (begins_pattern j.kind) → 256 < c.deep → IsRefused {X = Listed} closed (pattern_list_in c) (j ∷ rest) (j ∷ rest) TooDeep
-list_too_deep c j rest n b h = let g : Begun c j = begun c j j.kind refl b in record {
+list_too_deep : {most : Limits} (c : Context) (j : Word) (rest : List Word) → NoMark k.RightBracket (j ∷ rest) → IsTrue (begins_pattern j.kind) → most.trees < c.deep → IsRefused most {X = Listed} closed (pattern_list_in c) (j ∷ rest) (j ∷ rest) TooDeep
+list_too_deep {most = most} c j rest n b h = let g : Begun most c j = begun c j j.kind refl b in record {
   front = [];
   whole = refl;
   tree = (([], []), 0);
   more = mark_word k.RightBracket ∷ [];
   goes_on = λ l v gs w d. expands _ (no_pattern_list c 0 refl) (takes (mark_word k.RightBracket) refl d);
-  stops = λ l i r gs w o s d. deep_not c l h i.trees (list_forth l c r.0.0 r.0.1 r.1 gs (j ∷ rest) w n s d).0;
+  stops = λ l i r gs w o s d. deep_not most c l h i.trees (list_forth l c r.0.0 r.0.1 r.1 gs (j ∷ rest) w n s d).0;
   excused = record {
-    limits = deeper (c.deep + 1) (c.open_ + 1);
-    wide = deeper_wide (c.deep + 1) (c.open_ + 1);
+    limits = deeper most (c.deep + 1) (c.open_ + 1);
+    wide = deeper_wide most (c.deep + 1) (c.open_ + 1);
     allows = (refl, refl);
     first = j;
     behind = rest;
@@ -339,7 +339,7 @@ list_too_deep c j rest n b h = let g : Begun c j = begun c j j.kind refl b in re
 list_none : (l : Limits) (c : Context) (r : Listed) (gs : List Goal) (rest w : List Word) → NoMark k.RightBracket rest → NoPattern rest → SameHead w rest → Spells l (pattern_list_in c r ++ gs) w → ⊥
 list_none l c r gs rest w n b s d = let m = list_forth l c r.0.0 r.0.1 r.1 gs rest w n s d in pattern_none l c m.1.0.at m.1.0.tree m.1.0.height (items_in c m.1.1 ++ gs) rest w b s m.5
 
-list_refused : (c : Context) (rest : List Word) → NoMark k.RightBracket rest → NoPattern rest → IsRefused {X = Listed} closed (pattern_list_in c) rest rest Syntax
+list_refused : {most : Limits} (c : Context) (rest : List Word) → NoMark k.RightBracket rest → NoPattern rest → IsRefused most {X = Listed} closed (pattern_list_in c) rest rest Syntax
 list_refused c rest n b = record {
   front = [];
   whole = refl;
@@ -350,7 +350,7 @@ list_refused c rest n b = record {
   excused = tt;
 }
 
-pub list_first : (c : Context) (rest : List Word) (why : Cause) → FirstToken begins_pattern rest why → NoMark k.RightBracket rest → 256 < c.deep → IsRefused {X = Listed} closed (pattern_list_in c) rest rest why
+pub list_first : {most : Limits} (c : Context) (rest : List Word) (why : Cause) → FirstToken begins_pattern rest why → NoMark k.RightBracket rest → most.trees < c.deep → IsRefused most {X = Listed} closed (pattern_list_in c) rest rest why
 list_first c _ _ (only_deeper j rest b) n h = list_too_deep c j rest n b h
 list_first c _ _ at_end n h = list_refused c [] n no_pattern_end
 list_first c _ _ (at_other j rest b) n h = list_refused c (j ∷ rest) n (no_pattern j rest b)

@@ -34,7 +34,7 @@ variable_forth l c at e d gs j w h (expands _ (pat_tuple c_0 at_0 e_0 d_0 ys_0 d
 variable_forth l c at e d gs j w h (expands _ (pat_list c_0 at_0 e_0 d_0 ys_0 tail_0 dys_0 q0_0 q0_1 q0_2) (begins t kk ka z)) = cc
 variable_forth l c at e d gs j w h (expands _ (pat_bits c_0 at_0 e_0 d_0 sgs_0 q0_0 q0_1) (begins t kk ka z)) = cc
 
-pub on_variable : (c : Context) (j : Word) (rest : List Word) → j.kind ≡ k.Variable → Passes {X = Placed Pattern} closed (pat_in c) (j ∷ rest) nothing rest (λ u. record { at = j.at; tree = p.Var j.at j.chars; height = 1 })
+pub on_variable : {most : Limits} (c : Context) (j : Word) (rest : List Word) → j.kind ≡ k.Variable → Passes most {X = Placed Pattern} closed (pat_in c) (j ∷ rest) nothing rest (λ u. record { at = j.at; tree = p.Var j.at j.chars; height = 1 })
 on_variable c j rest h = record {
   front = j ∷ [];
   whole = refl;
@@ -55,7 +55,7 @@ integer_forth l c at e d gs j w h (expands _ (pat_tuple c_0 at_0 e_0 d_0 ys_0 dy
 integer_forth l c at e d gs j w h (expands _ (pat_list c_0 at_0 e_0 d_0 ys_0 tail_0 dys_0 q0_0 q0_1 q0_2) (begins t kk ka z)) = cc
 integer_forth l c at e d gs j w h (expands _ (pat_bits c_0 at_0 e_0 d_0 sgs_0 q0_0 q0_1) (begins t kk ka z)) = cc
 
-pub on_integer : (c : Context) (j : Word) (rest : List Word) → j.kind ≡ k.Integer → Passes {X = Placed Pattern} closed (pat_in c) (j ∷ rest) nothing rest (λ u. record { at = j.at; tree = p.Int j.at (pos j.number); height = 1 })
+pub on_integer : {most : Limits} (c : Context) (j : Word) (rest : List Word) → j.kind ≡ k.Integer → Passes most {X = Placed Pattern} closed (pat_in c) (j ∷ rest) nothing rest (λ u. record { at = j.at; tree = p.Int j.at (pos j.number); height = 1 })
 on_integer c j rest h = record {
   front = j ∷ [];
   whole = refl;
@@ -76,7 +76,7 @@ character_forth l c at e d gs j w h (expands _ (pat_tuple c_0 at_0 e_0 d_0 ys_0 
 character_forth l c at e d gs j w h (expands _ (pat_list c_0 at_0 e_0 d_0 ys_0 tail_0 dys_0 q0_0 q0_1 q0_2) (begins t kk ka z)) = cc
 character_forth l c at e d gs j w h (expands _ (pat_bits c_0 at_0 e_0 d_0 sgs_0 q0_0 q0_1) (begins t kk ka z)) = cc
 
-pub on_character : (c : Context) (j : Word) (rest : List Word) → j.kind ≡ k.Character → Passes {X = Placed Pattern} closed (pat_in c) (j ∷ rest) nothing rest (λ u. record { at = j.at; tree = p.Char j.at j.number; height = 1 })
+pub on_character : {most : Limits} (c : Context) (j : Word) (rest : List Word) → j.kind ≡ k.Character → Passes most {X = Placed Pattern} closed (pat_in c) (j ∷ rest) nothing rest (λ u. record { at = j.at; tree = p.Char j.at j.number; height = 1 })
 on_character c j rest h = record {
   front = j ∷ [];
   whole = refl;
@@ -97,7 +97,7 @@ atom_forth l c at e d gs j w h (expands _ (pat_tuple c_0 at_0 e_0 d_0 ys_0 dys_0
 atom_forth l c at e d gs j w h (expands _ (pat_list c_0 at_0 e_0 d_0 ys_0 tail_0 dys_0 q0_0 q0_1 q0_2) (begins t kk ka z)) = cc
 atom_forth l c at e d gs j w h (expands _ (pat_bits c_0 at_0 e_0 d_0 sgs_0 q0_0 q0_1) (begins t kk ka z)) = cc
 
-pub on_atom : (c : Context) (j : Word) (rest : List Word) → j.kind ≡ k.Atom → Passes {X = Placed Pattern} closed (pat_in c) (j ∷ rest) nothing rest (λ u. record { at = j.at; tree = p.Atom j.at j.number; height = 1 })
+pub on_atom : {most : Limits} (c : Context) (j : Word) (rest : List Word) → j.kind ≡ k.Atom → Passes most {X = Placed Pattern} closed (pat_in c) (j ∷ rest) nothing rest (λ u. record { at = j.at; tree = p.Atom j.at j.number; height = 1 })
 on_atom c j rest h = record {
   front = j ∷ [];
   whole = refl;
@@ -118,7 +118,7 @@ string_forth l c at e d gs j w h (expands _ (pat_tuple c_0 at_0 e_0 d_0 ys_0 dys
 string_forth l c at e d gs j w h (expands _ (pat_list c_0 at_0 e_0 d_0 ys_0 tail_0 dys_0 q0_0 q0_1 q0_2) (begins t kk ka z)) = cc
 string_forth l c at e d gs j w h (expands _ (pat_bits c_0 at_0 e_0 d_0 sgs_0 q0_0 q0_1) (begins t kk ka z)) = cc
 
-pub on_string : (c : Context) (j : Word) (rest : List Word) → j.kind ≡ k.Str → Passes {X = Placed Pattern} closed (pat_in c) (j ∷ rest) nothing rest (λ u. record { at = j.at; tree = p.Str j.at j.chars; height = 1 })
+pub on_string : {most : Limits} (c : Context) (j : Word) (rest : List Word) → j.kind ≡ k.Str → Passes most {X = Placed Pattern} closed (pat_in c) (j ∷ rest) nothing rest (λ u. record { at = j.at; tree = p.Str j.at j.chars; height = 1 })
 on_string c j rest h = record {
   front = j ∷ [];
   whole = refl;
@@ -139,7 +139,7 @@ wild_forth l c at e d gs j w h (expands _ (pat_tuple c_0 at_0 e_0 d_0 ys_0 dys_0
 wild_forth l c at e d gs j w h (expands _ (pat_list c_0 at_0 e_0 d_0 ys_0 tail_0 dys_0 q0_0 q0_1 q0_2) (begins t kk ka z)) = cc
 wild_forth l c at e d gs j w h (expands _ (pat_bits c_0 at_0 e_0 d_0 sgs_0 q0_0 q0_1) (begins t kk ka z)) = cc
 
-pub on_wild : (c : Context) (j : Word) (rest : List Word) → j.kind ≡ k.Underscore → Passes {X = Placed Pattern} closed (pat_in c) (j ∷ rest) nothing rest (λ u. record { at = j.at; tree = p.Wild j.at; height = 1 })
+pub on_wild : {most : Limits} (c : Context) (j : Word) (rest : List Word) → j.kind ≡ k.Underscore → Passes most {X = Placed Pattern} closed (pat_in c) (j ∷ rest) nothing rest (λ u. record { at = j.at; tree = p.Wild j.at; height = 1 })
 on_wild c j rest h = record {
   front = j ∷ [];
   whole = refl;
@@ -160,7 +160,7 @@ tuple_forth l c at e d gs j w h (expands _ (pat_tuple c_0 at_0 e_0 d_0 ys_0 dys_
 tuple_forth l c at e d gs j w h (expands _ (pat_list c_0 at_0 e_0 d_0 ys_0 tail_0 dys_0 q0_0 q0_1 q0_2) (begins t kk ka z)) = cc
 tuple_forth l c at e d gs j w h (expands _ (pat_bits c_0 at_0 e_0 d_0 sgs_0 q0_0 q0_1) (begins t kk ka z)) = cc
 
-pub on_brace : (c : Context) (j : Word) (rest : List Word) → j.kind ≡ k.LeftBrace → c.open_ < 64 → Passes {X = Placed Pattern} {Y = List Pattern × ℕ} closed (pat_in c) (j ∷ rest) (patterns_in k.RightBrace (inside (under c))) rest (λ r. record { at = j.at; tree = p.Tuple j.at r.0; height = r.1 + 1 })
+pub on_brace : {most : Limits} (c : Context) (j : Word) (rest : List Word) → j.kind ≡ k.LeftBrace → c.open_ < most.brackets → Passes most {X = Placed Pattern} {Y = List Pattern × ℕ} closed (pat_in c) (j ∷ rest) (patterns_in k.RightBrace (inside (under c))) rest (λ r. record { at = j.at; tree = p.Tuple j.at r.0; height = r.1 + 1 })
 on_brace c j rest h b = record {
   front = j ∷ [];
   whole = refl;
@@ -181,7 +181,7 @@ bits_forth l c at e d gs j w h (expands _ (pat_tuple c_0 at_0 e_0 d_0 ys_0 dys_0
 bits_forth l c at e d gs j w h (expands _ (pat_list c_0 at_0 e_0 d_0 ys_0 tail_0 dys_0 q0_0 q0_1 q0_2) (begins t kk ka z)) = cc
 bits_forth l c at e d gs j w h (expands _ (pat_bits c_0 at_0 e_0 d_0 sgs_0 q0_0 q0_1) (begins t kk ka z)) = (ka, sgs_0, q0_1 ∙ ap (λ v. p.Bits v sgs_0) ka, z)
 
-pub on_bits : (c : Context) (j : Word) (rest : List Word) → j.kind ≡ k.LeftBits → c.open_ < 64 → Passes {X = Placed Pattern} {Y = List Segment × ℕ} closed (pat_in c) (j ∷ rest) (pattern_bits_in c) rest (λ r. record { at = j.at; tree = p.Bits j.at r.0; height = r.1 })
+pub on_bits : {most : Limits} (c : Context) (j : Word) (rest : List Word) → j.kind ≡ k.LeftBits → c.open_ < most.brackets → Passes most {X = Placed Pattern} {Y = List Segment × ℕ} closed (pat_in c) (j ∷ rest) (pattern_bits_in c) rest (λ r. record { at = j.at; tree = p.Bits j.at r.0; height = r.1 })
 on_bits c j rest h b = record {
   front = j ∷ [];
   whole = refl;
@@ -202,7 +202,7 @@ list_forth l c at e d gs j w h (expands _ (pat_tuple c_0 at_0 e_0 d_0 ys_0 dys_0
 list_forth l c at e d gs j w h (expands _ (pat_list c_0 at_0 e_0 d_0 ys_0 tail_0 dys_0 q0_0 q0_1 q0_2) (begins t kk ka z)) = (ka, ys_0, tail_0, dys_0, q0_1 ∙ ap (λ v. p.List v ys_0 tail_0) ka, q0_2, z)
 list_forth l c at e d gs j w h (expands _ (pat_bits c_0 at_0 e_0 d_0 sgs_0 q0_0 q0_1) (begins t kk ka z)) = cc
 
-pub on_bracket : (c : Context) (j : Word) (rest : List Word) → j.kind ≡ k.LeftBracket → c.open_ < 64 → Passes {X = Placed Pattern} {Y = (List Pattern × List Pattern) × ℕ} closed (pat_in c) (j ∷ rest) (pattern_list_in (inside (under c))) rest (λ r. record { at = j.at; tree = p.List j.at r.0.0 r.0.1; height = r.1 + 1 })
+pub on_bracket : {most : Limits} (c : Context) (j : Word) (rest : List Word) → j.kind ≡ k.LeftBracket → c.open_ < most.brackets → Passes most {X = Placed Pattern} {Y = (List Pattern × List Pattern) × ℕ} closed (pat_in c) (j ∷ rest) (pattern_list_in (inside (under c))) rest (λ r. record { at = j.at; tree = p.List j.at r.0.0 r.0.1; height = r.1 + 1 })
 on_bracket c j rest h b = record {
   front = j ∷ [];
   whole = refl;

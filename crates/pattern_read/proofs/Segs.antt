@@ -21,6 +21,7 @@ use Rattle.pattern_read.proofs.Passing.{Within, same_kinds, Behind, behind_close
 use Rattle.pattern_read.proofs.Levels.{same_pair}
 use Rattle.pattern_read.proofs.Operands.{behind_mark, mark_spelled, mark_word, some_place, some_word, level_completed, deeper, deeper_wide}
 use Rattle.pattern_read.proofs.Values.{value_none, NoValue, no_value, no_value_there, Begun, begun}
+use Rattle.pattern_read.specs.Source.{Readable}
 
 -- ---- Sizes
 
@@ -29,7 +30,7 @@ size_variable_forth l c e d gs j w h (expands _ (size_integer c_0 e_0 d_0 t q0 q
 size_variable_forth l c e d gs j w h (expands _ (size_variable c_0 e_0 d_0 t q0 q1 q2) (this z)) = (q1, q2, z)
 size_variable_forth l c e d gs j w h (expands _ (size_paren c_0 e_0 d_0 ay q0) (takes t kk z)) = cc
 
-on_size_variable : (c : Context) (j : Word) (rest : List Word) → j.kind ≡ k.Variable → Passes {X = Expr × ℕ} closed (pattern_size_in c) (j ∷ rest) nothing rest (λ u. (x.Var j.at j.chars, 1))
+on_size_variable : {most : Limits} (c : Context) (j : Word) (rest : List Word) → j.kind ≡ k.Variable → Passes most {X = Expr × ℕ} closed (pattern_size_in c) (j ∷ rest) nothing rest (λ u. (x.Var j.at j.chars, 1))
 on_size_variable c j rest h = record {
   front = j ∷ [];
   whole = refl;
@@ -42,7 +43,7 @@ size_integer_forth l c e d gs j w h (expands _ (size_integer c_0 e_0 d_0 t q0 q1
 size_integer_forth l c e d gs j w h (expands _ (size_variable c_0 e_0 d_0 t q0 q1 q2) (this z)) = cc
 size_integer_forth l c e d gs j w h (expands _ (size_paren c_0 e_0 d_0 ay q0) (takes t kk z)) = cc
 
-on_size_integer : (c : Context) (j : Word) (rest : List Word) → j.kind ≡ k.Integer → Passes {X = Expr × ℕ} closed (pattern_size_in c) (j ∷ rest) nothing rest (λ u. (x.Int j.at (pos j.number), 1))
+on_size_integer : {most : Limits} (c : Context) (j : Word) (rest : List Word) → j.kind ≡ k.Integer → Passes most {X = Expr × ℕ} closed (pattern_size_in c) (j ∷ rest) nothing rest (λ u. (x.Int j.at (pos j.number), 1))
 on_size_integer c j rest h = record {
   front = j ∷ [];
   whole = refl;
@@ -55,8 +56,8 @@ size_paren_forth l c e d gs j w h (expands _ (size_integer c_0 e_0 d_0 t q0 q1 q
 size_paren_forth l c e d gs j w h (expands _ (size_variable c_0 e_0 d_0 t q0 q1 q2) (this z)) = cc
 size_paren_forth l c e d gs j w h (expands _ (size_paren c_0 e_0 d_0 ay q0) (takes t kk z)) = (q0, ay, z)
 
-on_size_paren : (c : Context) (j : Word) (rest : List Word) → j.kind ≡ k.LeftParen → c.open_ < 64 →
-    Passes {X = Expr × ℕ} {Y = Placed Expr × Unit {0}} closed (pattern_size_in c) (j ∷ rest) (λ q. level_in 0 (inside c) q.0 ++ mark_in k.RightParen q.1) rest (λ q. (q.0.tree, q.0.height))
+on_size_paren : {most : Limits} (c : Context) (j : Word) (rest : List Word) → j.kind ≡ k.LeftParen → c.open_ < most.brackets →
+    Passes most {X = Expr × ℕ} {Y = Placed Expr × Unit {0}} closed (pattern_size_in c) (j ∷ rest) (λ q. level_in 0 (inside c) q.0 ++ mark_in k.RightParen q.1) rest (λ q. (q.0.tree, q.0.height))
 on_size_paren c j rest h b = record {
   front = j ∷ [];
   whole = refl;
@@ -67,28 +68,28 @@ on_size_paren c j rest h b = record {
 size_spells : (l : Limits) (c : Context) (gs : List Goal) (w : List Word) → Spells l gs w → Spells l (Of (PatternSize c (x.Var some_place []) 1) ∷ gs) (some_word ∷ w)
 size_spells l c gs w d = expands _ (size_variable c _ _ some_word refl refl refl) (this d)
 
-stops_paren : (c : Context) (j : Word) (rest : List Word) → j.kind ≡ k.LeftParen → 64 ≤ c.open_ → (l : Limits) → l.brackets ≡ 64 → (r : Expr × ℕ) (gs : List Goal) (w : List Word) → SameHead w (j ∷ rest) → Spells l (pattern_size_in c r ++ gs) w → ⊥
-stops_paren c j rest h b l i r gs [] s d = s
-stops_paren c j rest h b l i r gs (t ∷ w) s d = let m = size_paren_forth l c r.0 r.1 gs t w (ap (λ v. v.kind) s ∙ h) d in let a : c.open_ < l.brackets = m.0 in omega arith
+stops_paren : (most : Limits) (c : Context) (j : Word) (rest : List Word) → j.kind ≡ k.LeftParen → most.brackets ≤ c.open_ → (l : Limits) → l.brackets ≡ most.brackets → (r : Expr × ℕ) (gs : List Goal) (w : List Word) → SameHead w (j ∷ rest) → Spells l (pattern_size_in c r ++ gs) w → ⊥
+stops_paren most c j rest h b l i r gs [] s d = s
+stops_paren most c j rest h b l i r gs (t ∷ w) s d = let m = size_paren_forth l c r.0 r.1 gs t w (ap (λ v. v.kind) s ∙ h) d in let a : c.open_ < l.brackets = m.0 in omega arith
 
-size_too_deep : (c : Context) (j : Word) (rest : List Word) → j.kind ≡ k.LeftParen → 64 ≤ c.open_ → IsRefused {X = Expr × ℕ} closed (pattern_size_in c) (j ∷ rest) (j ∷ rest) TooDeep
-size_too_deep c j rest h b = record {
+size_too_deep : {most : Limits} (c : Context) (j : Word) (rest : List Word) → j.kind ≡ k.LeftParen → most.brackets ≤ c.open_ → IsRefused most {X = Expr × ℕ} closed (pattern_size_in c) (j ∷ rest) (j ∷ rest) TooDeep
+size_too_deep {most = most} c j rest h b = record {
   front = [];
   whole = refl;
   tree = (x.Var some_place [], 1);
   more = some_word ∷ [];
   goes_on = λ l v gs w d. size_spells l c gs w d;
-  stops = λ l i r gs w o s d. stops_paren c j rest h b l i.brackets r gs w s d;
+  stops = λ l i r gs w o s d. stops_paren most c j rest h b l i.brackets r gs w s d;
   excused = record {
-    limits = deeper 0 (c.open_ + 1);
-    wide = deeper_wide 0 (c.open_ + 1);
+    limits = deeper most 0 (c.open_ + 1);
+    wide = deeper_wide most 0 (c.open_ + 1);
     allows = (refl, refl);
     first = j;
     behind = rest;
     begins = refl;
     tree = (x.Var some_place [], 1);
     more = some_word ∷ (mark_word k.RightParen ∷ []);
-    goes_on = λ gs w d. expands _ (size_paren c _ _ some_place (omega arith)) (takes j h (level_completed 0 (deeper 0 (c.open_ + 1)) (inside c) (Mark k.RightParen ∷ gs) (mark_word k.RightParen ∷ w) (takes (mark_word k.RightParen) refl d)));
+    goes_on = λ gs w d. expands _ (size_paren c _ _ some_place (omega arith)) (takes j h (level_completed 0 (deeper most 0 (c.open_ + 1)) (inside c) (Mark k.RightParen ∷ gs) (mark_word k.RightParen ∷ w) (takes (mark_word k.RightParen) refl d)));
   };
 }
 
@@ -100,7 +101,7 @@ size_none l c e d gs _ w a (no_mark j rest b) o s (expands _ (size_variable c_0 
 size_none l c e d gs _ w a b no_mark_end s (expands _ (size_paren c_0 e_0 d_0 ay q0) (takes t kk z)) = s
 size_none l c e d gs _ w a b (no_mark j rest o) s (expands _ (size_paren c_0 e_0 d_0 ay q0) (takes t kk z)) = o (ap (λ v. v.kind) (sym s) ∙ kk)
 
-size_refused : (c : Context) (rest : List Word) → NoMark k.Integer rest → NoMark k.Variable rest → NoMark k.LeftParen rest → IsRefused {X = Expr × ℕ} closed (pattern_size_in c) rest rest Syntax
+size_refused : {most : Limits} (c : Context) (rest : List Word) → NoMark k.Integer rest → NoMark k.Variable rest → NoMark k.LeftParen rest → IsRefused most {X = Expr × ℕ} closed (pattern_size_in c) rest rest Syntax
 size_refused c rest a b o = record {
   front = [];
   whole = refl;
@@ -111,38 +112,38 @@ size_refused c rest a b o = record {
   excused = tt;
 }
 
-pub size_integer_ok : (c : Context) (ws : List Word) (at : ℕ) (n : Numbered) (z : ℤ) → (s : StandsAt ws at n) → n.token.kind ≡ k.Integer → z ≡ pos n.value → Gives closed (pattern_size_in c) ws at (Ok ((x.Int n.token.span z, 1), at + 1))
-size_integer_ok c ws at n z s h e = remade (λ u. same_pair (ap (λ v. x.Int v (pos s.word.number)) s.place ∙ ap (λ v. x.Int n.token.span (pos v)) (s.number ∙ ap (number_of n) h) ∙ ap (λ v. x.Int n.token.span v) (sym e)) refl) (at_token s.is (on_size_integer c s.word (drop (at + 1) ws) (s.kind ∙ h)))
+pub size_integer_ok : (c : Context) (ws : Readable) (at : ℕ) (n : Numbered) (z : ℤ) → (s : StandsAt ws at n) → n.token.kind ≡ k.Integer → z ≡ pos n.value → Gives closed (pattern_size_in c) ws at (Ok ((x.Int n.token.span z, 1), at + 1))
+size_integer_ok c ws at n z s h e = remade (λ u. same_pair (ap (λ v. x.Int v (pos s.word.number)) s.place ∙ ap (λ v. x.Int n.token.span (pos v)) (s.number ∙ ap (number_of n) h) ∙ ap (λ v. x.Int n.token.span v) (sym e)) refl) (at_token s.is (on_size_integer c s.word (drop (at + 1) ws.words) (s.kind ∙ h)))
 
-pub size_variable_ok : (c : Context) (ws : List Word) (at : ℕ) (n : Numbered) (name : List ℕ) → (s : StandsAt ws at n) → n.token.kind ≡ k.Variable → name ≡ s.word.chars → Gives closed (pattern_size_in c) ws at (Ok ((x.Var n.token.span name, 1), at + 1))
-size_variable_ok c ws at n name s h e = remade (λ u. same_pair (ap (λ v. x.Var v s.word.chars) s.place ∙ ap (λ v. x.Var n.token.span v) (sym e)) refl) (at_token s.is (on_size_variable c s.word (drop (at + 1) ws) (s.kind ∙ h)))
+pub size_variable_ok : (c : Context) (ws : Readable) (at : ℕ) (n : Numbered) (name : List ℕ) → (s : StandsAt ws at n) → n.token.kind ≡ k.Variable → name ≡ s.word.chars → Gives closed (pattern_size_in c) ws at (Ok ((x.Var n.token.span name, 1), at + 1))
+size_variable_ok c ws at n name s h e = remade (λ u. same_pair (ap (λ v. x.Var v s.word.chars) s.place ∙ ap (λ v. x.Var n.token.span v) (sym e)) refl) (at_token s.is (on_size_variable c s.word (drop (at + 1) ws.words) (s.kind ∙ h)))
 
-pub size_paren_deep : (c : Context) (ws : List Word) (at : ℕ) (n : Numbered) → StandsAt ws at n → n.token.kind ≡ k.LeftParen → 64 ≤ c.open_ → IsRefused {X = Expr × ℕ} closed (pattern_size_in c) (drop at ws) (drop at ws) TooDeep
-size_paren_deep c ws at n s h b = refused_at s.is (size_too_deep c s.word (drop (at + 1) ws) (s.kind ∙ h) b)
+pub size_paren_deep : (c : Context) (ws : Readable) (at : ℕ) (n : Numbered) → StandsAt ws at n → n.token.kind ≡ k.LeftParen → ws.limits.brackets ≤ c.open_ → IsRefused ws.limits {X = Expr × ℕ} closed (pattern_size_in c) (drop at ws.words) (drop at ws.words) TooDeep
+size_paren_deep c ws at n s h b = refused_at s.is (size_too_deep c s.word (drop (at + 1) ws.words) (s.kind ∙ h) b)
 
 paren_behind : Behind {X = Placed Expr} {Y = Unit {0}} (extends 0) closed (λ q. mark_in k.RightParen)
 paren_behind = behind_mark k.RightParen (extends 0) closed refl
 
-size_inside : (c : Context) (ws : List Word) (at : ℕ) (n : Numbered) → StandsAt ws at n → n.token.kind ≡ k.LeftParen → c.open_ < 64 → Passes {X = Expr × ℕ} {Y = Placed Expr × Unit {0}} closed (pattern_size_in c) (drop at ws) (λ q. level_in 0 (inside c) q.0 ++ mark_in k.RightParen q.1) (drop (at + 1) ws) (λ q. (q.0.tree, q.0.height))
-size_inside c ws at n s h b = at_token s.is (on_size_paren c s.word (drop (at + 1) ws) (s.kind ∙ h) b)
+size_inside : (c : Context) (ws : Readable) (at : ℕ) (n : Numbered) → StandsAt ws at n → n.token.kind ≡ k.LeftParen → c.open_ < ws.limits.brackets → Passes ws.limits {X = Expr × ℕ} {Y = Placed Expr × Unit {0}} closed (pattern_size_in c) (drop at ws.words) (λ q. level_in 0 (inside c) q.0 ++ mark_in k.RightParen q.1) (drop (at + 1) ws.words) (λ q. (q.0.tree, q.0.height))
+size_inside c ws at n s h b = at_token s.is (on_size_paren c s.word (drop (at + 1) ws.words) (s.kind ∙ h) b)
 
-pub size_paren_err : (c : Context) (ws : List Word) (at : ℕ) (n : Numbered) (f : Fault) → StandsAt ws at n → n.token.kind ≡ k.LeftParen → c.open_ < 64 → Gives (extends 0) (level_in 0 (inside c)) ws (at + 1) (Err f) → Gives closed (pattern_size_in c) ws at (Err f)
+pub size_paren_err : (c : Context) (ws : Readable) (at : ℕ) (n : Numbered) (f : Fault) → StandsAt ws at n → n.token.kind ≡ k.LeftParen → c.open_ < ws.limits.brackets → Gives (extends 0) (level_in 0 (inside c)) ws (at + 1) (Err f) → Gives closed (pattern_size_in c) ws at (Err f)
 size_paren_err c ws at n f s h b g = fault_after ws at (at + 1) f (same_kinds closed) (size_inside c ws at n s h b) (fault_first (level_in 0 (inside c)) ws (at + 1) f paren_behind (mark_spelled k.RightParen) g)
 
-size_then : (c : Context) (ws : List Word) (at after : ℕ) (n : Numbered) (y : Placed Expr) → StandsAt ws at n → n.token.kind ≡ k.LeftParen → c.open_ < 64 → Gives (extends 0) (level_in 0 (inside c)) ws (at + 1) (Ok (y, after)) → Passes {X = Expr × ℕ} {Y = Unit {0}} closed (pattern_size_in c) (drop at ws) (mark_in k.RightParen) (drop after ws) (λ u. (y.tree, y.height))
+size_then : (c : Context) (ws : Readable) (at after : ℕ) (n : Numbered) (y : Placed Expr) → StandsAt ws at n → n.token.kind ≡ k.LeftParen → c.open_ < ws.limits.brackets → Gives (extends 0) (level_in 0 (inside c)) ws (at + 1) (Ok (y, after)) → Passes ws.limits {X = Expr × ℕ} {Y = Unit {0}} closed (pattern_size_in c) (drop at ws.words) (mark_in k.RightParen) (drop after ws.words) (λ u. (y.tree, y.height))
 size_then c ws at after n y s h b g = and_then (same_kinds closed) (size_inside c ws at n s h b) (first_of_two paren_behind g)
 
-pub size_close_err : (c : Context) (ws : List Word) (at after : ℕ) (n : Numbered) (y : Placed Expr) (f : Fault) → StandsAt ws at n → n.token.kind ≡ k.LeftParen → c.open_ < 64 → Gives (extends 0) (level_in 0 (inside c)) ws (at + 1) (Ok (y, after)) → Gives closed (mark_in k.RightParen) ws after (Err f) → Gives closed (pattern_size_in c) ws at (Err f)
+pub size_close_err : (c : Context) (ws : Readable) (at after : ℕ) (n : Numbered) (y : Placed Expr) (f : Fault) → StandsAt ws at n → n.token.kind ≡ k.LeftParen → c.open_ < ws.limits.brackets → Gives (extends 0) (level_in 0 (inside c)) ws (at + 1) (Ok (y, after)) → Gives closed (mark_in k.RightParen) ws after (Err f) → Gives closed (pattern_size_in c) ws at (Err f)
 size_close_err c ws at after n y f s h b g m = fault_after ws at after f (same_kinds closed) (size_then c ws at after n y s h b g) m
 
-pub size_close : (c : Context) (ws : List Word) (at after next : ℕ) (n : Numbered) (y : Placed Expr) (u : Unit {0}) → StandsAt ws at n → n.token.kind ≡ k.LeftParen → c.open_ < 64 → Gives (extends 0) (level_in 0 (inside c)) ws (at + 1) (Ok (y, after)) → Gives closed (mark_in k.RightParen) ws after (Ok (u, next)) → Gives closed (pattern_size_in c) ws at (Ok ((y.tree, y.height), next))
+pub size_close : (c : Context) (ws : Readable) (at after next : ℕ) (n : Numbered) (y : Placed Expr) (u : Unit {0}) → StandsAt ws at n → n.token.kind ≡ k.LeftParen → c.open_ < ws.limits.brackets → Gives (extends 0) (level_in 0 (inside c)) ws (at + 1) (Ok (y, after)) → Gives closed (mark_in k.RightParen) ws after (Ok (u, next)) → Gives closed (pattern_size_in c) ws at (Ok ((y.tree, y.height), next))
 size_close c ws at after next n y u s h b g m = and_then (same_kinds closed) (size_then c ws at after n y s h b g) m
 
-pub size_there : (c : Context) (ws : List Word) (at : ℕ) → drop at ws ≡ [] → IsRefused {X = Expr × ℕ} closed (pattern_size_in c) (drop at ws) (drop at ws) Syntax
+pub size_there : (c : Context) (ws : Readable) (at : ℕ) → drop at ws.words ≡ [] → IsRefused ws.limits {X = Expr × ℕ} closed (pattern_size_in c) (drop at ws.words) (drop at ws.words) Syntax
 size_there c ws at e = refused_at e (size_refused c [] no_mark_end no_mark_end no_mark_end)
 
-pub size_other : (c : Context) (ws : List Word) (at : ℕ) (n : Numbered) → StandsAt ws at n → (n.token.kind ≡ k.Integer → ⊥) → (n.token.kind ≡ k.Variable → ⊥) → (n.token.kind ≡ k.LeftParen → ⊥) → IsRefused {X = Expr × ℕ} closed (pattern_size_in c) (drop at ws) (drop at ws) Syntax
-size_other c ws at n s a b o = refused_at s.is (size_refused c (s.word ∷ drop (at + 1) ws) (no_mark s.word _ (λ e. a (sym s.kind ∙ e))) (no_mark s.word _ (λ e. b (sym s.kind ∙ e))) (no_mark s.word _ (λ e. o (sym s.kind ∙ e))))
+pub size_other : (c : Context) (ws : Readable) (at : ℕ) (n : Numbered) → StandsAt ws at n → (n.token.kind ≡ k.Integer → ⊥) → (n.token.kind ≡ k.Variable → ⊥) → (n.token.kind ≡ k.LeftParen → ⊥) → IsRefused ws.limits {X = Expr × ℕ} closed (pattern_size_in c) (drop at ws.words) (drop at ws.words) Syntax
+size_other c ws at n s a b o = refused_at s.is (size_refused c (s.word ∷ drop (at + 1) ws.words) (no_mark s.word _ (λ e. a (sym s.kind ∙ e))) (no_mark s.word _ (λ e. b (sym s.kind ∙ e))) (no_mark s.word _ (λ e. o (sym s.kind ∙ e))))
 
 -- ---- Behind a value
 
@@ -165,7 +166,7 @@ colon_forth : (l : Limits) (c : Context) (at : Span) (y : Expr) (dy : ℕ) (sg :
 colon_forth l c at y dy sg d gs j w h o (expands _ (pattern_sized c_0 at_0 y_0 dy_0 sg_0 d_0 z dz q0) (takes t i r)) = (((z, dz), sg), refl, q0, r)
 colon_forth l c at y dy sg d gs j w h o (expands _ (pattern_unsized c_0 at_0 y_0 dy_0 sg_0 d_0 q0) r) = absurd (no_type l at y sg gs j w h o r)
 
-on_colon : (c : Context) (y : Placed Expr) (j : Word) (rest : List Word) → j.kind ≡ k.Colon → Passes {X = Segment × ℕ} {Y = (Expr × ℕ) × Segment} goes_sized (pattern_rest_in c y) (j ∷ rest) (size_and_type c y) rest (λ q. (q.1, max y.height q.0.1))
+on_colon : {most : Limits} (c : Context) (y : Placed Expr) (j : Word) (rest : List Word) → j.kind ≡ k.Colon → Passes most {X = Segment × ℕ} {Y = (Expr × ℕ) × Segment} goes_sized (pattern_rest_in c y) (j ∷ rest) (size_and_type c y) rest (λ q. (q.1, max y.height q.0.1))
 on_colon c y j rest h = record {
   front = j ∷ [];
   whole = refl;
@@ -178,7 +179,7 @@ unsized_forth l c at y dy sg d gs rest w n s (expands _ (pattern_unsized c_0 at_
 unsized_forth l c at y dy sg d gs _ w no_mark_end s (expands _ (pattern_sized c_0 at_0 y_0 dy_0 sg_0 d_0 z dz q0) (takes t i r)) = absurd s
 unsized_forth l c at y dy sg d gs _ w (no_mark j rest n) s (expands _ (pattern_sized c_0 at_0 y_0 dy_0 sg_0 d_0 z dz q0) (takes t i r)) = absurd (n (ap (λ v. v.kind) (sym s) ∙ i))
 
-on_unsized : (c : Context) (y : Placed Expr) (rest : List Word) → NoMark k.Colon rest → Passes {X = Segment × ℕ} {Y = Segment} goes_sized (pattern_rest_in c y) rest (segment_type_in y.at y.tree None) rest (λ sg. (sg, y.height))
+on_unsized : {most : Limits} (c : Context) (y : Placed Expr) (rest : List Word) → NoMark k.Colon rest → Passes most {X = Segment × ℕ} {Y = Segment} goes_sized (pattern_rest_in c y) rest (segment_type_in y.at y.tree None) rest (λ sg. (sg, y.height))
 on_unsized c y rest n = record {
   front = [];
   whole = refl;
@@ -189,28 +190,28 @@ on_unsized c y rest n = record {
 behind_size : (y : Placed Expr) → Behind {X = Expr × ℕ} {Y = Segment} closed goes_sized (λ q. segment_type_in y.at y.tree (Some q.0))
 behind_size y = behind_closed goes_sized (λ q. segment_type_in y.at y.tree (Some q.0))
 
-type_spelled : (y : Placed Expr) → Spelled {X = Expr × ℕ} {Y = Segment} (λ q. segment_type_in y.at y.tree (Some q.0)) []
+type_spelled : {most : Limits} (y : Placed Expr) → Spelled most {X = Expr × ℕ} {Y = Segment} (λ q. segment_type_in y.at y.tree (Some q.0)) []
 type_spelled y = record { tree = λ q. record { at = y.at; value = y.tree; size = Some q.0; specs = [] }; spelled = λ l v q gs w d. expands _ (untyped y.at y.tree (Some q.0) _ refl) d }
 
-pub rest_unsized_err : (c : Context) (ws : List Word) (at : ℕ) (y : Placed Expr) (f : Fault) → NoMark k.Colon (drop at ws) → Gives goes_typed (segment_type_in y.at y.tree None) ws at (Err f) → Gives goes_sized (pattern_rest_in c y) ws at (Err f)
-rest_unsized_err c ws at y f n g = fault_after ws at at f typed_within (on_unsized c y (drop at ws) n) g
+pub rest_unsized_err : (c : Context) (ws : Readable) (at : ℕ) (y : Placed Expr) (f : Fault) → NoMark k.Colon (drop at ws.words) → Gives goes_typed (segment_type_in y.at y.tree None) ws at (Err f) → Gives goes_sized (pattern_rest_in c y) ws at (Err f)
+rest_unsized_err c ws at y f n g = fault_after ws at at f typed_within (on_unsized c y (drop at ws.words) n) g
 
-pub rest_unsized : (c : Context) (ws : List Word) (at next : ℕ) (y : Placed Expr) (sg : Segment) → NoMark k.Colon (drop at ws) → Gives goes_typed (segment_type_in y.at y.tree None) ws at (Ok (sg, next)) → Gives goes_sized (pattern_rest_in c y) ws at (Ok ((sg, y.height), next))
-rest_unsized c ws at next y sg n g = and_then typed_within (on_unsized c y (drop at ws) n) g
+pub rest_unsized : (c : Context) (ws : Readable) (at next : ℕ) (y : Placed Expr) (sg : Segment) → NoMark k.Colon (drop at ws.words) → Gives goes_typed (segment_type_in y.at y.tree None) ws at (Ok (sg, next)) → Gives goes_sized (pattern_rest_in c y) ws at (Ok ((sg, y.height), next))
+rest_unsized c ws at next y sg n g = and_then typed_within (on_unsized c y (drop at ws.words) n) g
 
-rest_colon : (c : Context) (ws : List Word) (at : ℕ) (y : Placed Expr) → IsAt ws at k.Colon → Passes {X = Segment × ℕ} {Y = (Expr × ℕ) × Segment} goes_sized (pattern_rest_in c y) (drop at ws) (size_and_type c y) (drop (at + 1) ws) (λ q. (q.1, max y.height q.0.1))
-rest_colon c ws at y s = at_token s.is (on_colon c y s.word (drop (at + 1) ws) s.kind_is)
+rest_colon : (c : Context) (ws : Readable) (at : ℕ) (y : Placed Expr) → IsAt ws at k.Colon → Passes ws.limits {X = Segment × ℕ} {Y = (Expr × ℕ) × Segment} goes_sized (pattern_rest_in c y) (drop at ws.words) (size_and_type c y) (drop (at + 1) ws.words) (λ q. (q.1, max y.height q.0.1))
+rest_colon c ws at y s = at_token s.is (on_colon c y s.word (drop (at + 1) ws.words) s.kind_is)
 
-pub rest_size_err : (c : Context) (ws : List Word) (at : ℕ) (y : Placed Expr) (f : Fault) → IsAt ws at k.Colon → Gives closed (pattern_size_in c) ws (at + 1) (Err f) → Gives goes_sized (pattern_rest_in c y) ws at (Err f)
+pub rest_size_err : (c : Context) (ws : Readable) (at : ℕ) (y : Placed Expr) (f : Fault) → IsAt ws at k.Colon → Gives closed (pattern_size_in c) ws (at + 1) (Err f) → Gives goes_sized (pattern_rest_in c y) ws at (Err f)
 rest_size_err c ws at y f s g = fault_after ws at (at + 1) f (same_kinds goes_sized) (rest_colon c ws at y s) (fault_first (pattern_size_in c) ws (at + 1) f (behind_size y) (type_spelled y) g)
 
-rest_size : (c : Context) (ws : List Word) (at after : ℕ) (y : Placed Expr) (z : Expr) (dz : ℕ) → IsAt ws at k.Colon → Gives closed (pattern_size_in c) ws (at + 1) (Ok ((z, dz), after)) → Passes {X = Segment × ℕ} {Y = Segment} goes_sized (pattern_rest_in c y) (drop at ws) (segment_type_in y.at y.tree (Some z)) (drop after ws) (λ sg. (sg, max y.height dz))
+rest_size : (c : Context) (ws : Readable) (at after : ℕ) (y : Placed Expr) (z : Expr) (dz : ℕ) → IsAt ws at k.Colon → Gives closed (pattern_size_in c) ws (at + 1) (Ok ((z, dz), after)) → Passes ws.limits {X = Segment × ℕ} {Y = Segment} goes_sized (pattern_rest_in c y) (drop at ws.words) (segment_type_in y.at y.tree (Some z)) (drop after ws.words) (λ sg. (sg, max y.height dz))
 rest_size c ws at after y z dz s g = and_then (same_kinds goes_sized) (rest_colon c ws at y s) (first_of_two (behind_size y) g)
 
-pub rest_type_err : (c : Context) (ws : List Word) (at after : ℕ) (y : Placed Expr) (z : Expr) (dz : ℕ) (f : Fault) → IsAt ws at k.Colon → Gives closed (pattern_size_in c) ws (at + 1) (Ok ((z, dz), after)) → Gives goes_typed (segment_type_in y.at y.tree (Some z)) ws after (Err f) → Gives goes_sized (pattern_rest_in c y) ws at (Err f)
+pub rest_type_err : (c : Context) (ws : Readable) (at after : ℕ) (y : Placed Expr) (z : Expr) (dz : ℕ) (f : Fault) → IsAt ws at k.Colon → Gives closed (pattern_size_in c) ws (at + 1) (Ok ((z, dz), after)) → Gives goes_typed (segment_type_in y.at y.tree (Some z)) ws after (Err f) → Gives goes_sized (pattern_rest_in c y) ws at (Err f)
 rest_type_err c ws at after y z dz f s g h = fault_after ws at after f typed_within (rest_size c ws at after y z dz s g) h
 
-pub rest_sized : (c : Context) (ws : List Word) (at after next : ℕ) (y : Placed Expr) (z : Expr) (dz h : ℕ) (sg : Segment) → IsAt ws at k.Colon → h ≡ max y.height dz → Gives closed (pattern_size_in c) ws (at + 1) (Ok ((z, dz), after)) → Gives goes_typed (segment_type_in y.at y.tree (Some z)) ws after (Ok (sg, next)) → Gives goes_sized (pattern_rest_in c y) ws at (Ok ((sg, h), next))
+pub rest_sized : (c : Context) (ws : Readable) (at after next : ℕ) (y : Placed Expr) (z : Expr) (dz h : ℕ) (sg : Segment) → IsAt ws at k.Colon → h ≡ max y.height dz → Gives closed (pattern_size_in c) ws (at + 1) (Ok ((z, dz), after)) → Gives goes_typed (segment_type_in y.at y.tree (Some z)) ws after (Ok (sg, next)) → Gives goes_sized (pattern_rest_in c y) ws at (Ok ((sg, h), next))
 rest_sized c ws at after next y z dz h sg s e g t = remade (λ u. same_pair refl (sym e)) (and_then typed_within (rest_size c ws at after y z dz s g) t)
 
 -- ---- A segment
@@ -221,7 +222,7 @@ value_and_rest c q = pattern_value_in c q.0 ++ pattern_rest_in c q.0 q.1
 segment_forth : (l : Limits) (c : Context) (sg : Segment) (d : ℕ) (gs : List Goal) (w : List Word) → Spells l (Of (PatternSegment c sg d) ∷ gs) w → (y : Placed Expr) × Spells l (pattern_value_in c y ++ (pattern_rest_in c y (sg, d) ++ gs)) w
 segment_forth l c sg d gs w (expands _ (pattern_segment c_0 sg_0 d_0 ay y dy) z) = (record { at = ay; tree = y; height = dy }, z)
 
-on_segment : (c : Context) (rest : List Word) → Passes {X = Segment × ℕ} {Y = Placed Expr × (Segment × ℕ)} goes_sized (pattern_segment_in c) rest (value_and_rest c) rest (λ q. q.1)
+on_segment : {most : Limits} (c : Context) (rest : List Word) → Passes most {X = Segment × ℕ} {Y = Placed Expr × (Segment × ℕ)} goes_sized (pattern_segment_in c) rest (value_and_rest c) rest (λ q. q.1)
 on_segment c rest = record {
   front = [];
   whole = refl;
@@ -232,15 +233,15 @@ on_segment c rest = record {
 behind_value : (c : Context) → Behind {X = Placed Expr} {Y = Segment × ℕ} closed goes_sized (λ y. pattern_rest_in c y)
 behind_value c = behind_closed goes_sized (λ y. pattern_rest_in c y)
 
-rest_spelled : (c : Context) → Spelled {X = Placed Expr} {Y = Segment × ℕ} (λ y. pattern_rest_in c y) []
+rest_spelled : {most : Limits} (c : Context) → Spelled most {X = Placed Expr} {Y = Segment × ℕ} (λ y. pattern_rest_in c y) []
 rest_spelled c = record { tree = λ y. (record { at = y.at; value = y.tree; size = None; specs = [] }, y.height); spelled = λ l v y gs w d. expands _ (pattern_unsized c _ _ _ _ _ refl) (expands _ (untyped y.at y.tree None _ refl) d) }
 
-pub segment_value_err : (c : Context) (ws : List Word) (at : ℕ) (f : Fault) → Gives closed (pattern_value_in c) ws at (Err f) → Gives goes_sized (pattern_segment_in c) ws at (Err f)
-segment_value_err c ws at f g = fault_after ws at at f (same_kinds goes_sized) (on_segment c (drop at ws)) (fault_first (pattern_value_in c) ws at f (behind_value c) (rest_spelled c) g)
+pub segment_value_err : (c : Context) (ws : Readable) (at : ℕ) (f : Fault) → Gives closed (pattern_value_in c) ws at (Err f) → Gives goes_sized (pattern_segment_in c) ws at (Err f)
+segment_value_err c ws at f g = fault_after ws at at f (same_kinds goes_sized) (on_segment c (drop at ws.words)) (fault_first (pattern_value_in c) ws at f (behind_value c) (rest_spelled c) g)
 
-pub segment_whole : (c : Context) (ws : List Word) (at after : ℕ) (y : Placed Expr) (r : Result ((Segment × ℕ) × ℕ) Fault) → Gives closed (pattern_value_in c) ws at (Ok (y, after)) → Gives goes_sized (pattern_rest_in c y) ws after r → Gives goes_sized (pattern_segment_in c) ws at r
-segment_whole c ws at after y (Ok r) g h = and_then (same_kinds goes_sized) (and_then (same_kinds goes_sized) (on_segment c (drop at ws)) (first_of_two (behind_value c) g)) h
-segment_whole c ws at after y (Err f) g h = fault_after ws at after f (same_kinds goes_sized) (and_then (same_kinds goes_sized) (on_segment c (drop at ws)) (first_of_two (behind_value c) g)) h
+pub segment_whole : (c : Context) (ws : Readable) (at after : ℕ) (y : Placed Expr) (r : Result ((Segment × ℕ) × ℕ) Fault) → Gives closed (pattern_value_in c) ws at (Ok (y, after)) → Gives goes_sized (pattern_rest_in c y) ws after r → Gives goes_sized (pattern_segment_in c) ws at r
+segment_whole c ws at after y (Ok r) g h = and_then (same_kinds goes_sized) (and_then (same_kinds goes_sized) (on_segment c (drop at ws.words)) (first_of_two (behind_value c) g)) h
+segment_whole c ws at after y (Err f) g h = fault_after ws at after f (same_kinds goes_sized) (and_then (same_kinds goes_sized) (on_segment c (drop at ws.words)) (first_of_two (behind_value c) g)) h
 
 segment_none : (l : Limits) (c : Context) (sg : Segment) (d : ℕ) (gs : List Goal) (rest w : List Word) → NoValue rest → SameHead w rest → Spells l (Of (PatternSegment c sg d) ∷ gs) w → ⊥
 segment_none l c sg d gs rest w n s (expands _ (pattern_segment c_0 sg_0 d_0 ay y dy) z) = value_none l c ay y dy (Of (PatternSegmentRest c ay y dy sg d) ∷ gs) rest w n s z
@@ -257,7 +258,7 @@ no_bits_forth : (l : Limits) (c : Context) (sgs : List Segment) (d : ℕ) (gs : 
 no_bits_forth l c _ d gs j w h (expands _ (no_pattern_bits c_0 d_0 q0) (takes t i z)) = (refl, q0, z)
 no_bits_forth l c _ d gs j w h (expands _ (pattern_bits c_0 sg ds sgs dss d_0 q0 q1) z) = absurd (segment_none l (inside (under c)) sg ds (Of (MorePatternSegments (inside (under c)) sgs dss) ∷ gs) (j ∷ w) (j ∷ w) (no_value j w (ap begins_value h)) refl z)
 
-on_no_bits : (c : Context) (j : Word) (rest : List Word) → j.kind ≡ k.RightBits → Passes {X = List Segment × ℕ} closed (pattern_bits_in c) (j ∷ rest) nothing rest (λ u. ([], 1))
+on_no_bits : {most : Limits} (c : Context) (j : Word) (rest : List Word) → j.kind ≡ k.RightBits → Passes most {X = List Segment × ℕ} closed (pattern_bits_in c) (j ∷ rest) nothing rest (λ u. ([], 1))
 on_no_bits c j rest h = record {
   front = j ∷ [];
   whole = refl;
@@ -270,7 +271,7 @@ bits_forth l c _ d gs rest w n s (expands _ (pattern_bits c_0 sg ds sgs dss d_0 
 bits_forth l c _ d gs _ w no_mark_end s (expands _ (no_pattern_bits c_0 d_0 q0) (takes t i z)) = absurd s
 bits_forth l c _ d gs _ w (no_mark j rest n) s (expands _ (no_pattern_bits c_0 d_0 q0) (takes t i z)) = absurd (n (ap (λ v. v.kind) (sym s) ∙ i))
 
-on_first : (c : Context) (rest : List Word) → c.deep + 1 ≤ 256 → NoMark k.RightBits rest → Passes {X = List Segment × ℕ} {Y = (Segment × ℕ) × (List Segment × ℕ)} closed (pattern_bits_in c) rest (segment_and_more (inside (under c))) rest (λ q. (q.0.0 ∷ q.1.0, max q.0.1 q.1.1 + 1))
+on_first : {most : Limits} (c : Context) (rest : List Word) → c.deep + 1 ≤ most.trees → NoMark k.RightBits rest → Passes most {X = List Segment × ℕ} {Y = (Segment × ℕ) × (List Segment × ℕ)} closed (pattern_bits_in c) rest (segment_and_more (inside (under c))) rest (λ q. (q.0.0 ∷ q.1.0, max q.0.1 q.1.1 + 1))
 on_first c rest b n = record {
   front = [];
   whole = refl;
@@ -282,7 +283,7 @@ comma_forth : (l : Limits) (c : Context) (sgs : List Segment) (d : ℕ) (gs : Li
 comma_forth l c _ d gs j w h (expands _ (more_pattern_segments c_0 sg ds sgs dss d_0 q0) (takes t i z)) = (((sg, ds), (sgs, dss)), refl, q0, z)
 comma_forth l c _ d gs j w h (expands _ (end_pattern_segments c_0 d_0 q0) (takes t i z)) = cc
 
-on_comma : (c : Context) (j : Word) (rest : List Word) → j.kind ≡ k.Comma → Passes {X = List Segment × ℕ} {Y = (Segment × ℕ) × (List Segment × ℕ)} closed (more_segments_in c) (j ∷ rest) (segment_and_more c) rest (λ q. (q.0.0 ∷ q.1.0, max q.0.1 q.1.1))
+on_comma : {most : Limits} (c : Context) (j : Word) (rest : List Word) → j.kind ≡ k.Comma → Passes most {X = List Segment × ℕ} {Y = (Segment × ℕ) × (List Segment × ℕ)} closed (more_segments_in c) (j ∷ rest) (segment_and_more c) rest (λ q. (q.0.0 ∷ q.1.0, max q.0.1 q.1.1))
 on_comma c j rest h = record {
   front = j ∷ [];
   whole = refl;
@@ -294,7 +295,7 @@ end_forth : (l : Limits) (c : Context) (sgs : List Segment) (d : ℕ) (gs : List
 end_forth l c _ d gs j w h (expands _ (more_pattern_segments c_0 sg ds sgs dss d_0 q0) (takes t i z)) = cc
 end_forth l c _ d gs j w h (expands _ (end_pattern_segments c_0 d_0 q0) (takes t i z)) = (refl, q0, z)
 
-on_end : (c : Context) (j : Word) (rest : List Word) → j.kind ≡ k.RightBits → Passes {X = List Segment × ℕ} closed (more_segments_in c) (j ∷ rest) nothing rest (λ u. ([], 0))
+on_end : {most : Limits} (c : Context) (j : Word) (rest : List Word) → j.kind ≡ k.RightBits → Passes most {X = List Segment × ℕ} closed (more_segments_in c) (j ∷ rest) nothing rest (λ u. ([], 0))
 on_end c j rest h = record {
   front = j ∷ [];
   whole = refl;
@@ -308,7 +309,7 @@ more_stops l c _ d gs _ w (no_mark j rest a) b s (expands _ (more_pattern_segmen
 more_stops l c _ d gs _ w a no_mark_end s (expands _ (end_pattern_segments c_0 d_0 q0) (takes t i z)) = s
 more_stops l c _ d gs _ w a (no_mark j rest b) s (expands _ (end_pattern_segments c_0 d_0 q0) (takes t i z)) = b (ap (λ v. v.kind) (sym s) ∙ i)
 
-more_refused : (c : Context) (rest : List Word) → NoMark k.Comma rest → NoMark k.RightBits rest → IsRefused {X = List Segment × ℕ} closed (more_segments_in c) rest rest Syntax
+more_refused : {most : Limits} (c : Context) (rest : List Word) → NoMark k.Comma rest → NoMark k.RightBits rest → IsRefused most {X = List Segment × ℕ} closed (more_segments_in c) rest rest Syntax
 more_refused c rest a b = record {
   front = [];
   whole = refl;
@@ -326,25 +327,25 @@ more_lengthens l c _ d gs j w h (expands _ (end_pattern_segments c_0 d_0 q0) (ta
 behind_segment : (c : Context) → Behind {X = Segment × ℕ} {Y = List Segment × ℕ} goes_sized closed (λ q. more_segments_in c)
 behind_segment c = record { behind = λ l p q gs o t w h d. more_lengthens l c q.0 q.1 gs t w h d }
 
-more_spelled : (c : Context) → Spelled {X = Segment × ℕ} {Y = List Segment × ℕ} (λ q. more_segments_in c) (mark_word k.RightBits ∷ [])
+more_spelled : {most : Limits} (c : Context) → Spelled most {X = Segment × ℕ} {Y = List Segment × ℕ} (λ q. more_segments_in c) (mark_word k.RightBits ∷ [])
 more_spelled c = record { tree = λ q. ([], 0); spelled = λ l v q gs w d. expands _ (end_pattern_segments c 0 refl) (takes (mark_word k.RightBits) refl d) }
 
 -- ---- A first segment that is too deep
 
-stops_bits : (l : Limits) (c : Context) (sgs : List Segment) (d : ℕ) (gs : List Goal) (j : Word) (rest w : List Word) → (j.kind ≡ k.RightBits → ⊥) → 256 < c.deep + 1 → l.trees ≡ 256 → SameHead w (j ∷ rest) → Spells l (Of (PatternBits c sgs d) ∷ gs) w → ⊥
-stops_bits l c sgs d gs j rest w n b i s z = let m = bits_forth l c sgs d gs (j ∷ rest) w (no_mark j rest n) s z in let a : c.deep + 1 ≤ l.trees = m.0 in omega arith
+stops_bits : (most : Limits) (l : Limits) (c : Context) (sgs : List Segment) (d : ℕ) (gs : List Goal) (j : Word) (rest w : List Word) → (j.kind ≡ k.RightBits → ⊥) → most.trees < c.deep + 1 → l.trees ≡ most.trees → SameHead w (j ∷ rest) → Spells l (Of (PatternBits c sgs d) ∷ gs) w → ⊥
+stops_bits most l c sgs d gs j rest w n b i s z = let m = bits_forth l c sgs d gs (j ∷ rest) w (no_mark j rest n) s z in let a : c.deep + 1 ≤ l.trees = m.0 in omega arith
 
-bits_too_deep : (c : Context) (j : Word) (rest : List Word) → (j.kind ≡ k.RightBits → ⊥) → IsTrue (begins_value j.kind) → 256 < c.deep + 1 → IsRefused {X = List Segment × ℕ} closed (pattern_bits_in c) (j ∷ rest) (j ∷ rest) TooDeep
-bits_too_deep c j rest n b h = let g : Begun (inside (under c)) j = begun (inside (under c)) j j.kind refl b in record {
+bits_too_deep : {most : Limits} (c : Context) (j : Word) (rest : List Word) → (j.kind ≡ k.RightBits → ⊥) → IsTrue (begins_value j.kind) → most.trees < c.deep + 1 → IsRefused most {X = List Segment × ℕ} closed (pattern_bits_in c) (j ∷ rest) (j ∷ rest) TooDeep
+bits_too_deep {most = most} c j rest n b h = let g : Begun most (inside (under c)) j = begun (inside (under c)) j j.kind refl b in record {
   front = [];
   whole = refl;
   tree = ([], 1);
   more = mark_word k.RightBits ∷ [];
   goes_on = λ l v gs w d. expands _ (no_pattern_bits c 1 refl) (takes (mark_word k.RightBits) refl d);
-  stops = λ l i r gs w o s d. stops_bits l c r.0 r.1 gs j rest w n h i.trees s d;
+  stops = λ l i r gs w o s d. stops_bits most l c r.0 r.1 gs j rest w n h i.trees s d;
   excused = record {
-    limits = deeper (c.deep + 1 + 1) 0;
-    wide = deeper_wide (c.deep + 1 + 1) 0;
+    limits = deeper most (c.deep + 1 + 1) 0;
+    wide = deeper_wide most (c.deep + 1 + 1) 0;
     allows = (refl, refl);
     first = j;
     behind = rest;
@@ -352,7 +353,7 @@ bits_too_deep c j rest n b h = let g : Begun (inside (under c)) j = begun (insid
     tree = (record { at = g.tree.at; value = g.tree.tree; size = None; specs = [] } ∷ [], max g.tree.height 0 + 1);
     more = g.more ++ (mark_word k.RightBits ∷ []);
     goes_on = λ gs w d.
-        let end : Spells (deeper (c.deep + 1 + 1) 0) (Of (MorePatternSegments (inside (under c)) [] 0) ∷ gs) (mark_word k.RightBits ∷ w) = expands _ (end_pattern_segments (inside (under c)) 0 refl) (takes (mark_word k.RightBits) refl d) in
+        let end : Spells (deeper most (c.deep + 1 + 1) 0) (Of (MorePatternSegments (inside (under c)) [] 0) ∷ gs) (mark_word k.RightBits ∷ w) = expands _ (end_pattern_segments (inside (under c)) 0 refl) (takes (mark_word k.RightBits) refl d) in
         let sg : Segment = record { at = g.tree.at; value = g.tree.tree; size = None; specs = [] } in
         expands _ (pattern_bits c sg g.tree.height [] 0 (max g.tree.height 0 + 1) (omega arith) refl)
         (spells_at (ap (λ v. j ∷ v) (sym (append_assoc g.more (mark_word k.RightBits ∷ []) w)))
@@ -365,7 +366,7 @@ bits_too_deep c j rest n b h = let g : Begun (inside (under c)) j = begun (insid
 bits_none : (l : Limits) (c : Context) (sgs : List Segment) (d : ℕ) (gs : List Goal) (rest w : List Word) → NoMark k.RightBits rest → NoValue rest → SameHead w rest → Spells l (Of (PatternBits c sgs d) ∷ gs) w → ⊥
 bits_none l c sgs d gs rest w n b s z = let m = bits_forth l c sgs d gs rest w n s z in segment_none l (inside (under c)) m.1.0.0 m.1.0.1 (more_segments_in (inside (under c)) m.1.1 ++ gs) rest w b s m.4
 
-bits_refused : (c : Context) (rest : List Word) → NoMark k.RightBits rest → NoValue rest → IsRefused {X = List Segment × ℕ} closed (pattern_bits_in c) rest rest Syntax
+bits_refused : {most : Limits} (c : Context) (rest : List Word) → NoMark k.RightBits rest → NoValue rest → IsRefused most {X = List Segment × ℕ} closed (pattern_bits_in c) rest rest Syntax
 bits_refused c rest n b = record {
   front = [];
   whole = refl;
@@ -379,34 +380,34 @@ bits_refused c rest n b = record {
 head_not : {kind : TokenKind} {j : Word} {rest : List Word} → NoMark kind (j ∷ rest) → j.kind ≡ kind → ⊥
 head_not (no_mark j rest o) = o
 
-pub bits_first : (c : Context) (rest : List Word) (why : Cause) → FirstToken begins_value rest why → NoMark k.RightBits rest → 256 < c.deep + 1 → IsRefused {X = List Segment × ℕ} closed (pattern_bits_in c) rest rest why
+pub bits_first : {most : Limits} (c : Context) (rest : List Word) (why : Cause) → FirstToken begins_value rest why → NoMark k.RightBits rest → most.trees < c.deep + 1 → IsRefused most {X = List Segment × ℕ} closed (pattern_bits_in c) rest rest why
 bits_first c _ _ (only_deeper j rest b) n h = bits_too_deep c j rest (head_not n) b h
 bits_first c _ _ at_end n h = bits_refused c [] n no_value_there
 bits_first c _ _ (at_other j rest b) n h = bits_refused c (j ∷ rest) n (no_value j rest b)
 
 -- ---- Exits of the loop
 
-pub bits_empty : (c : Context) (ws : List Word) (at : ℕ) (items : List Segment) → IsAt ws at k.RightBits → items ≡ [] → Gives closed (pattern_bits_in c) ws at (Ok ((items, 1), at + 1))
-bits_empty c ws at items s e = remade (λ u. same_pair (sym e) refl) (at_token s.is (on_no_bits c s.word (drop (at + 1) ws) s.kind_is))
+pub bits_empty : (c : Context) (ws : Readable) (at : ℕ) (items : List Segment) → IsAt ws at k.RightBits → items ≡ [] → Gives closed (pattern_bits_in c) ws at (Ok ((items, 1), at + 1))
+bits_empty c ws at items s e = remade (λ u. same_pair (sym e) refl) (at_token s.is (on_no_bits c s.word (drop (at + 1) ws.words) s.kind_is))
 
 -- what was read so far
-abbrev pub SegmentsRead : Context → List Word → ℕ → ℕ → List Segment → ℕ → Type 0
-SegmentsRead c ws at next items h = Passes {X = List Segment × ℕ} {Y = (Segment × ℕ) × (List Segment × ℕ)} closed (pattern_bits_in c) (drop at ws) (segment_and_more (inside (under c))) (drop next ws) (λ q. (items ++ (q.0.0 ∷ q.1.0), max h (max q.0.1 q.1.1) + 1))
+abbrev pub SegmentsRead : Context → Readable → ℕ → ℕ → List Segment → ℕ → Type 0
+SegmentsRead c ws at next items h = Passes ws.limits {X = List Segment × ℕ} {Y = (Segment × ℕ) × (List Segment × ℕ)} closed (pattern_bits_in c) (drop at ws.words) (segment_and_more (inside (under c))) (drop next ws.words) (λ q. (items ++ (q.0.0 ∷ q.1.0), max h (max q.0.1 q.1.1) + 1))
 
-pub bits_begin : (c : Context) (ws : List Word) (at : ℕ) (items : List Segment) → c.deep + 1 ≤ 256 → NoMark k.RightBits (drop at ws) → items ≡ [] → SegmentsRead c ws at at items 0
-bits_begin c ws at items b n e = remade (λ q. same_pair (ap (λ v. v ++ (q.0.0 ∷ q.1.0)) (sym e)) (omega arith)) (on_first c (drop at ws) b n)
+pub bits_begin : (c : Context) (ws : Readable) (at : ℕ) (items : List Segment) → c.deep + 1 ≤ ws.limits.trees → NoMark k.RightBits (drop at ws.words) → items ≡ [] → SegmentsRead c ws at at items 0
+bits_begin c ws at items b n e = remade (λ q. same_pair (ap (λ v. v ++ (q.0.0 ∷ q.1.0)) (sym e)) (omega arith)) (on_first c (drop at ws.words) b n)
 
-pub bits_err : (c : Context) (ws : List Word) (at next : ℕ) (items : List Segment) (h : ℕ) (f : Fault) → SegmentsRead c ws at next items h → Gives goes_sized (pattern_segment_in (inside (under c))) ws next (Err f) → Gives closed (pattern_bits_in c) ws at (Err f)
+pub bits_err : (c : Context) (ws : Readable) (at next : ℕ) (items : List Segment) (h : ℕ) (f : Fault) → SegmentsRead c ws at next items h → Gives goes_sized (pattern_segment_in (inside (under c))) ws next (Err f) → Gives closed (pattern_bits_in c) ws at (Err f)
 bits_err c ws at next items h f r g = fault_after ws at next f (same_kinds closed) r (fault_first (pattern_segment_in (inside (under c))) ws next f (behind_segment (inside (under c))) (more_spelled (inside (under c))) g)
 
-then_more : (c : Context) (ws : List Word) (at next after : ℕ) (items : List Segment) (h : ℕ) (sg : Segment) (ds : ℕ) → SegmentsRead c ws at next items h → Gives goes_sized (pattern_segment_in (inside (under c))) ws next (Ok ((sg, ds), after)) → Passes {X = List Segment × ℕ} {Y = List Segment × ℕ} closed (pattern_bits_in c) (drop at ws) (more_segments_in (inside (under c))) (drop after ws) (λ q. (items ++ (sg ∷ q.0), max h (max ds q.1) + 1))
+then_more : (c : Context) (ws : Readable) (at next after : ℕ) (items : List Segment) (h : ℕ) (sg : Segment) (ds : ℕ) → SegmentsRead c ws at next items h → Gives goes_sized (pattern_segment_in (inside (under c))) ws next (Ok ((sg, ds), after)) → Passes ws.limits {X = List Segment × ℕ} {Y = List Segment × ℕ} closed (pattern_bits_in c) (drop at ws.words) (more_segments_in (inside (under c))) (drop after ws.words) (λ q. (items ++ (sg ∷ q.0), max h (max ds q.1) + 1))
 then_more c ws at next after items h sg ds r g = and_then (same_kinds closed) r (first_of_two (behind_segment (inside (under c))) g)
 
-pub bits_end : (c : Context) (ws : List Word) (at next after : ℕ) (items all : List Segment) (h g : ℕ) (sg : Segment) (ds : ℕ) → SegmentsRead c ws at next items h → Gives goes_sized (pattern_segment_in (inside (under c))) ws next (Ok ((sg, ds), after)) → IsAt ws after k.RightBits → all ≡ items ++ (sg ∷ []) → g ≡ max h ds → Gives closed (pattern_bits_in c) ws at (Ok ((all, g + 1), after + 1))
-bits_end c ws at next after items all h g sg ds r v s e i = remade (λ u. same_pair (sym e) (omega (arith, i))) (and_then (same_kinds closed) (then_more c ws at next after items h sg ds r v) (at_token s.is (on_end (inside (under c)) s.word (drop (after + 1) ws) s.kind_is)))
+pub bits_end : (c : Context) (ws : Readable) (at next after : ℕ) (items all : List Segment) (h g : ℕ) (sg : Segment) (ds : ℕ) → SegmentsRead c ws at next items h → Gives goes_sized (pattern_segment_in (inside (under c))) ws next (Ok ((sg, ds), after)) → IsAt ws after k.RightBits → all ≡ items ++ (sg ∷ []) → g ≡ max h ds → Gives closed (pattern_bits_in c) ws at (Ok ((all, g + 1), after + 1))
+bits_end c ws at next after items all h g sg ds r v s e i = remade (λ u. same_pair (sym e) (omega (arith, i))) (and_then (same_kinds closed) (then_more c ws at next after items h sg ds r v) (at_token s.is (on_end (inside (under c)) s.word (drop (after + 1) ws.words) s.kind_is)))
 
-pub bits_more : (c : Context) (ws : List Word) (at next after : ℕ) (items all : List Segment) (h g : ℕ) (sg : Segment) (ds : ℕ) → SegmentsRead c ws at next items h → Gives goes_sized (pattern_segment_in (inside (under c))) ws next (Ok ((sg, ds), after)) → IsAt ws after k.Comma → all ≡ items ++ (sg ∷ []) → g ≡ max h ds → SegmentsRead c ws at (after + 1) all g
-bits_more c ws at next after items all h g sg ds r v s e i = remade (λ q. same_pair (sym (append_assoc items (sg ∷ []) (q.0.0 ∷ q.1.0)) ∙ ap (λ u. u ++ (q.0.0 ∷ q.1.0)) (sym e)) (omega (arith, i))) (and_then (same_kinds closed) (then_more c ws at next after items h sg ds r v) (at_token s.is (on_comma (inside (under c)) s.word (drop (after + 1) ws) s.kind_is)))
+pub bits_more : (c : Context) (ws : Readable) (at next after : ℕ) (items all : List Segment) (h g : ℕ) (sg : Segment) (ds : ℕ) → SegmentsRead c ws at next items h → Gives goes_sized (pattern_segment_in (inside (under c))) ws next (Ok ((sg, ds), after)) → IsAt ws after k.Comma → all ≡ items ++ (sg ∷ []) → g ≡ max h ds → SegmentsRead c ws at (after + 1) all g
+bits_more c ws at next after items all h g sg ds r v s e i = remade (λ q. same_pair (sym (append_assoc items (sg ∷ []) (q.0.0 ∷ q.1.0)) ∙ ap (λ u. u ++ (q.0.0 ∷ q.1.0)) (sym e)) (omega (arith, i))) (and_then (same_kinds closed) (then_more c ws at next after items h sg ds r v) (at_token s.is (on_comma (inside (under c)) s.word (drop (after + 1) ws.words) s.kind_is)))
 
-pub bits_other : (c : Context) (ws : List Word) (at next after : ℕ) (items : List Segment) (h : ℕ) (sg : Segment) (ds : ℕ) → SegmentsRead c ws at next items h → Gives goes_sized (pattern_segment_in (inside (under c))) ws next (Ok ((sg, ds), after)) → NoMark k.Comma (drop after ws) → NoMark k.RightBits (drop after ws) → IsRefused {X = List Segment × ℕ} closed (pattern_bits_in c) (drop at ws) (drop after ws) Syntax
-bits_other c ws at next after items h sg ds r v a b = refused_after (same_kinds closed) (then_more c ws at next after items h sg ds r v) (more_refused (inside (under c)) (drop after ws) a b)
+pub bits_other : (c : Context) (ws : Readable) (at next after : ℕ) (items : List Segment) (h : ℕ) (sg : Segment) (ds : ℕ) → SegmentsRead c ws at next items h → Gives goes_sized (pattern_segment_in (inside (under c))) ws next (Ok ((sg, ds), after)) → NoMark k.Comma (drop after ws.words) → NoMark k.RightBits (drop after ws.words) → IsRefused ws.limits {X = List Segment × ℕ} closed (pattern_bits_in c) (drop at ws.words) (drop after ws.words) Syntax
+bits_other c ws at next after items h sg ds r v a b = refused_after (same_kinds closed) (then_more c ws at next after items h sg ds r v) (more_refused (inside (under c)) (drop after ws.words) a b)

@@ -1,6 +1,7 @@
--- The words of a text: its tokens with what they stand for.
-use Rattle.std.specs.Prelude.{◌≡◌, ℕ, ◌+◌, ◌<◌, ◌≤◌, ◌^◌, length, List, ◌∷◌, drop, map}
+-- What is read: the words of a text, which are its tokens with what they stand for, within limits on depth.
+use Rattle.std.specs.Prelude.{◌≡◌, ℕ, ◌+◌, ◌<◌, ◌≤◌, ◌^◌, length, List, ◌∷◌, drop, map, false}
 use Rattle.erl_syntax.specs.Word.{Word}
+use Rattle.erl_syntax.specs.Grammar.{Limits}
 use Rattle.erl_syntax.specs.Tokens.{token_text}
 pub use Rattle.erl_syntax.specs.Reading.{characters_of}
 use Rattle.erl_syntax.specs.declared.token.TokenKind.{TokenKind}
@@ -25,10 +26,19 @@ word_of text n = record { kind = n.token.kind; at = n.token.span; number = numbe
 abbrev pub words : List ℕ → List Numbered → List Word
 words text tokens = map (word_of text) tokens
 
+-- words, and how deep what is read of them may be
+pub record Readable : Type 0 where
+  pub words : List Word
+  pub limits : Limits
+
+-- limits that allow these depths, and no other attribute or word of a type than those of modules
+abbrev pub limits_of : ℕ → ℕ → Limits
+limits_of trees brackets = record { trees = trees; brackets = brackets; any_attribute = false; any_type = false }
+
 -- the token is the one of that index
-pub record StandsAt (all : List Word) (at : ℕ) (n : Numbered) : Type 0 where
+pub record StandsAt (ws : Readable) (at : ℕ) (n : Numbered) : Type 0 where
   pub word : Word
-  pub is : drop at all ≡ word ∷ drop (at + 1) all
+  pub is : drop at ws.words ≡ word ∷ drop (at + 1) ws.words
   pub kind : word.kind ≡ n.token.kind
   pub place : word.at ≡ n.token.span
   pub number : word.number ≡ number_of n n.token.kind

@@ -14,6 +14,7 @@ use Rattle.erl_syntax.specs.declared.expr.Op.TheVariants as o
 use Rattle.pattern_read.specs.declared.fault.Cause.{Cause}
 use Rattle.pattern_read.specs.declared.fault.Cause.TheVariants.{Syntax, TooDeep}
 use Rattle.pattern_read.specs.declared.placed.Placed.{Placed}
+use Rattle.pattern_read.specs.Source.{Readable}
 
 -- in a size of a pattern
 abbrev pub in_size : ℕ → ℕ → Context
@@ -103,9 +104,9 @@ mark_in kind u = Mark kind ∷ []
 -- ---- What stands at a place
 
 -- a token of the kind stands there
-pub record IsAt (all : List Word) (at : ℕ) (kind : TokenKind) : Type 0 where
+pub record IsAt (ws : Readable) (at : ℕ) (kind : TokenKind) : Type 0 where
   pub word : Word
-  pub is : drop at all ≡ word ∷ drop (at + 1) all
+  pub is : drop at ws.words ≡ word ∷ drop (at + 1) ws.words
   pub kind_is : word.kind ≡ kind
 
 -- the tokens begin with none of the kind
@@ -114,16 +115,16 @@ pub data NoMark (kind : TokenKind) : List Word → Type 0 where
   no_mark : (j : Word) (rest : List Word) → (j.kind ≡ kind → ⊥) → NoMark kind (j ∷ rest)
 
 -- an atom of that number stands there
-pub record AtomAt (all : List Word) (at n : ℕ) : Type 0 where
+pub record AtomAt (ws : Readable) (at n : ℕ) : Type 0 where
   pub word : Word
-  pub is : drop at all ≡ word ∷ drop (at + 1) all
+  pub is : drop at ws.words ≡ word ∷ drop (at + 1) ws.words
   pub kind : word.kind ≡ k.Atom
   pub number : word.number ≡ n
 
 -- the variable `MODULE` stands there
-pub record ModuleAt (all : List Word) (at : ℕ) : Type 0 where
+pub record ModuleAt (ws : Readable) (at : ℕ) : Type 0 where
   pub word : Word
-  pub is : drop at all ≡ word ∷ drop (at + 1) all
+  pub is : drop at ws.words ≡ word ∷ drop (at + 1) ws.words
   pub kind : word.kind ≡ k.Variable
   pub chars : word.chars ≡ module_macro
 
@@ -132,9 +133,9 @@ pub data NoModule : List Word → Type 0 where
   no_module : (m : Word) (rest : List Word) → (m.kind ≡ k.Variable → m.chars ≡ module_macro → ⊥) → NoModule (m ∷ rest)
 
 -- an operator of the level stands there
-pub record OperatorAt (all : List Word) (at n : ℕ) (op : Op) : Type 0 where
+pub record OperatorAt (ws : Readable) (at n : ℕ) (op : Op) : Type 0 where
   pub word : Word
-  pub is : drop at all ≡ word ∷ drop (at + 1) all
+  pub is : drop at ws.words ≡ word ∷ drop (at + 1) ws.words
   pub operator : operator_of word.kind ≡ Some op
   pub level : level_of op ≡ n
   pub other : op ≢ o.Send

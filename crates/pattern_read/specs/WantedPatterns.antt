@@ -13,6 +13,7 @@ use Rattle.erl_syntax.specs.declared.segment.Spec.{Spec}
 use Rattle.pattern_read.specs.declared.fault.Cause.{Cause}
 use Rattle.pattern_read.specs.declared.fault.Cause.TheVariants.{Syntax, TooDeep}
 use Rattle.pattern_read.specs.declared.placed.Placed.{Placed}
+use Rattle.pattern_read.specs.Source.{Readable}
 
 -- a pattern begins with one of these brackets
 abbrev pub opens_pattern : TokenKind → Bool
@@ -125,8 +126,8 @@ pub data FirstToken (begins : TokenKind → Bool) : List Word → Cause → Type
   at_other : (j : Word) (rest : List Word) → begins j.kind ≡ false → FirstToken begins (j ∷ rest) Syntax
 
 -- the word `unit` stands there
-pub record UnitAt (all : List Word) (at : ℕ) : Type 0 where
+pub record UnitAt (ws : Readable) (at : ℕ) : Type 0 where
   pub word : Word
-  pub is : drop at all ≡ word ∷ drop (at + 1) all
+  pub is : drop at ws.words ≡ word ∷ drop (at + 1) ws.words
   pub kind : word.kind ≡ k.Atom
   pub chars : word.chars ≡ unit_word

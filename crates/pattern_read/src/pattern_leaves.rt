@@ -34,11 +34,11 @@ fn signed_pattern(
     numbered: Numbered,
 ) -> Result<(Placed<Pattern>, usize), Fault>
     requires stands { StandsAt source.now at numbered }
-    requires within { at < length source.now }
-    requires short { length source.now < 2 ^ 64 }
+    requires within { at < length source.now.words }
+    requires short { length source.now.words < 2 ^ 64 }
     requires sign { numbered.token.kind ≡ k.Plus ⊎ numbered.token.kind ≡ k.Minus }
     ensures reads { (c : Context) → Gives closed (pat_in c) source.now at result }
-    ensures further { IfOk result (λ r. at < r.1 × (r.1 ≤ length source.now)) }
+    ensures further { IfOk result (λ r. at < r.1 × (r.1 ≤ length source.now.words)) }
     ensures flat { IfOk result (λ r. r.0.height ≡ 1) }
 {
     let Some(digits) = source.token(at + 1) else {
@@ -66,12 +66,12 @@ pub(crate) fn leaf(
     numbered: Numbered,
 ) -> Result<(Placed<Pattern>, usize), Fault>
     requires stands { StandsAt source.now at numbered }
-    requires within { at < length source.now }
-    requires short { length source.now < 2 ^ 64 }
+    requires within { at < length source.now.words }
+    requires short { length source.now.words < 2 ^ 64 }
     requires narrow { numbered.value < 2 ^ 127 }
     requires bare { opens_pattern numbered.token.kind ≡ false }
     ensures reads { (c : Context) → Gives closed (pat_in c) source.now at result }
-    ensures further { IfOk result (λ r. at < r.1 × (r.1 ≤ length source.now)) }
+    ensures further { IfOk result (λ r. at < r.1 × (r.1 ≤ length source.now.words)) }
     ensures flat { IfOk result (λ r. r.0.height ≡ 1) }
 {
     let place = numbered.token.span;
@@ -163,15 +163,15 @@ fn signed_value(
     op: Prefix,
 ) -> Result<(Placed<Expr>, usize), Fault>
     requires stands { StandsAt source.now at numbered }
-    requires within { at < length source.now }
-    requires short { length source.now < 2 ^ 64 }
+    requires within { at < length source.now.words }
+    requires short { length source.now.words < 2 ^ 64 }
     requires sign { numbered.token.kind ≡ k.Plus ⊎ numbered.token.kind ≡ k.Minus }
     requires prefix { prefix_of numbered.token.kind ≡ Some op }
     ensures reads { (c : Context) → c.deep ≡ deep → Gives closed (pattern_value_in c) source.now at result }
-    ensures further { IfOk result (λ r. at < r.1 × (r.1 ≤ length source.now)) }
-    ensures bounded { IfOk result (λ r. (1 ≤ r.0.height) × (deep + r.0.height ≤ 257)) }
+    ensures further { IfOk result (λ r. at < r.1 × (r.1 ≤ length source.now.words)) }
+    ensures bounded { IfOk result (λ r. (1 ≤ r.0.height) × (deep + r.0.height ≤ source.now.limits.trees + 1)) }
 {
-    if deep >= 256 {
+    if deep >= source.trees() {
         return Err(Fault::Refused(at, Cause::TooDeep));
     }
     let Some(digits) = source.token(at + 1) else {
@@ -207,11 +207,11 @@ pub(crate) fn pattern_value(
     at: usize,
     deep: usize,
 ) -> Result<(Placed<Expr>, usize), Fault>
-    requires place { at ≤ length source.now }
-    requires tree { deep ≤ 256 }
+    requires place { at ≤ length source.now.words }
+    requires tree { deep ≤ source.now.limits.trees }
     ensures reads { (c : Context) → c.deep ≡ deep → Gives closed (pattern_value_in c) source.now at result }
-    ensures further { IfOk result (λ r. at < r.1 × (r.1 ≤ length source.now)) }
-    ensures bounded { IfOk result (λ r. (1 ≤ r.0.height) × (deep + r.0.height ≤ 257)) }
+    ensures further { IfOk result (λ r. at < r.1 × (r.1 ≤ length source.now.words)) }
+    ensures bounded { IfOk result (λ r. (1 ≤ r.0.height) × (deep + r.0.height ≤ source.now.limits.trees + 1)) }
 {
     let Some(numbered) = source.token(at) else {
         return Err(Fault::Refused(at, Cause::Syntax));

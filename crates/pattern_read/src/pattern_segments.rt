@@ -21,18 +21,18 @@ pub fn pattern_bits(
     deep: usize,
     brackets: usize,
 ) -> Result<((Listed<Segment>, usize), usize), Fault>
-    requires place { at ≤ length source.now }
-    requires tree { deep ≤ 256 }
-    requires bracket { brackets < 64 }
+    requires place { at ≤ length source.now.words }
+    requires tree { deep ≤ source.now.limits.trees }
+    requires bracket { brackets < source.now.limits.brackets }
     ensures reads { Gives closed (pattern_bits_in (in_size deep brackets)) source.now at result }
-    ensures further { IfOk result (λ r. at < r.1 × (r.1 ≤ length source.now)) }
-    ensures bounded { IfOk result (λ r. (1 ≤ r.0.1) × (deep + r.0.1 ≤ 257)) }
+    ensures further { IfOk result (λ r. at < r.1 × (r.1 ≤ length source.now.words)) }
+    ensures bounded { IfOk result (λ r. (1 ≤ r.0.1) × (deep + r.0.1 ≤ source.now.limits.trees + 1)) }
 {
     let mut segments = Vec::new(alloc);
     if source.is(at, TokenKind::RightBits) {
         return Ok(((Listed::of(segments), 1), at + 1));
     }
-    if deep >= 256 {
+    if deep >= source.trees() {
         return Err(Fault::Refused(at, value_cause(source, at)));
     }
     let mut height = 0;
@@ -65,12 +65,12 @@ fn pattern_segment(
     deep: usize,
     brackets: usize,
 ) -> Result<((Segment, usize), usize), Fault>
-    requires place { at ≤ length source.now }
-    requires tree { deep ≤ 256 }
-    requires bracket { brackets ≤ 64 }
+    requires place { at ≤ length source.now.words }
+    requires tree { deep ≤ source.now.limits.trees }
+    requires bracket { brackets ≤ source.now.limits.brackets }
     ensures reads { Gives goes_sized (pattern_segment_in (in_size deep brackets)) source.now at result }
-    ensures further { IfOk result (λ r. at < r.1 × (r.1 ≤ length source.now)) }
-    ensures bounded { IfOk result (λ r. (1 ≤ r.0.1) × (deep + r.0.1 ≤ 257)) }
+    ensures further { IfOk result (λ r. at < r.1 × (r.1 ≤ length source.now.words)) }
+    ensures bounded { IfOk result (λ r. (1 ≤ r.0.1) × (deep + r.0.1 ≤ source.now.limits.trees + 1)) }
 {
     let (value, after) = pattern_value(alloc, source, at, deep)?;
     segment_rest(alloc, source, after, deep, brackets, value)
@@ -85,14 +85,14 @@ fn segment_rest(
     brackets: usize,
     value: Placed<Expr>,
 ) -> Result<((Segment, usize), usize), Fault>
-    requires place { at ≤ length source.now }
-    requires tree { deep ≤ 256 }
-    requires bracket { brackets ≤ 64 }
+    requires place { at ≤ length source.now.words }
+    requires tree { deep ≤ source.now.limits.trees }
+    requires bracket { brackets ≤ source.now.limits.brackets }
     requires tall { 1 ≤ value.height }
-    requires height { deep + value.height ≤ 257 }
+    requires height { deep + value.height ≤ source.now.limits.trees + 1 }
     ensures reads { Gives goes_sized (pattern_rest_in (in_size deep brackets) value) source.now at result }
-    ensures further { IfOk result (λ r. at ≤ r.1 × (r.1 ≤ length source.now)) }
-    ensures bounded { IfOk result (λ r. (1 ≤ r.0.1) × (deep + r.0.1 ≤ 257)) }
+    ensures further { IfOk result (λ r. at ≤ r.1 × (r.1 ≤ length source.now.words)) }
+    ensures bounded { IfOk result (λ r. (1 ≤ r.0.1) × (deep + r.0.1 ≤ source.now.limits.trees + 1)) }
 {
     let place = value.at;
     if !source.is(at, TokenKind::Colon) {
@@ -112,12 +112,12 @@ fn pattern_size(
     deep: usize,
     brackets: usize,
 ) -> Result<((Expr, usize), usize), Fault>
-    requires place { at ≤ length source.now }
-    requires tree { deep ≤ 256 }
-    requires bracket { brackets ≤ 64 }
+    requires place { at ≤ length source.now.words }
+    requires tree { deep ≤ source.now.limits.trees }
+    requires bracket { brackets ≤ source.now.limits.brackets }
     ensures reads { Gives closed (pattern_size_in (in_size deep brackets)) source.now at result }
-    ensures further { IfOk result (λ r. at < r.1 × (r.1 ≤ length source.now)) }
-    ensures bounded { IfOk result (λ r. (1 ≤ r.0.1) × (deep + r.0.1 ≤ 257)) }
+    ensures further { IfOk result (λ r. at < r.1 × (r.1 ≤ length source.now.words)) }
+    ensures bounded { IfOk result (λ r. (1 ≤ r.0.1) × (deep + r.0.1 ≤ source.now.limits.trees + 1)) }
 {
     let Some(numbered) = source.token(at) else {
         return Err(Fault::Refused(at, Cause::Syntax));
@@ -133,7 +133,7 @@ fn pattern_size(
             Ok(((Expr::Var { at: place, name }, 1), at + 1))
         }
         TokenKind::LeftParen => {
-            if brackets >= 64 {
+            if brackets >= source.brackets() {
                 return Err(Fault::Refused(at, Cause::TooDeep));
             }
             let (inner, after) = size_level(alloc, source, at + 1, 0, deep, brackets + 1)?;

@@ -54,8 +54,8 @@ fn begins_pattern(kind: TokenKind) -> bool
 
 /// Why no pattern stands where it would be too deep.
 pub(crate) fn pattern_cause(source: &Source, at: usize) -> Cause
-    requires { at ≤ length source.now }
-    ensures { FirstToken begins_pattern (drop at source.now) result }
+    requires { at ≤ length source.now.words }
+    ensures { FirstToken begins_pattern (drop at source.now.words) result }
 {
     let Some(numbered) = source.token(at) else {
         return Cause::Syntax;
@@ -69,8 +69,8 @@ pub(crate) fn pattern_cause(source: &Source, at: usize) -> Cause
 
 /// Why no segment of a pattern stands where it would be too deep.
 pub(crate) fn value_cause(source: &Source, at: usize) -> Cause
-    requires { at ≤ length source.now }
-    ensures { FirstToken begins_value (drop at source.now) result }
+    requires { at ≤ length source.now.words }
+    ensures { FirstToken begins_value (drop at source.now.words) result }
 {
     let Some(numbered) = source.token(at) else {
         return Cause::Syntax;

@@ -21,12 +21,12 @@ pub fn pattern(
     deep: usize,
     brackets: usize,
 ) -> Result<(Placed<Pattern>, usize), Fault>
-    requires place { at ≤ length source.now }
-    requires tree { deep ≤ 256 }
-    requires bracket { brackets ≤ 64 }
+    requires place { at ≤ length source.now.words }
+    requires tree { deep ≤ source.now.limits.trees }
+    requires bracket { brackets ≤ source.now.limits.brackets }
     ensures reads { Gives goes_same (pattern_in (in_size deep brackets)) source.now at result }
-    ensures further { IfOk result (λ r. at < r.1 × (r.1 ≤ length source.now)) }
-    ensures bounded { IfOk result (λ r. (1 ≤ r.0.height) × (deep + r.0.height ≤ 257)) }
+    ensures further { IfOk result (λ r. at < r.1 × (r.1 ≤ length source.now.words)) }
+    ensures bounded { IfOk result (λ r. (1 ≤ r.0.height) × (deep + r.0.height ≤ source.now.limits.trees + 1)) }
 {
     let (first, after) = pat(alloc, source, at, deep, brackets)?;
     let place = first.at;
@@ -51,19 +51,19 @@ fn same(
     brackets: usize,
     first: Placed<Pattern>,
 ) -> Result<((Pattern, usize), usize), Fault>
-    requires place { at ≤ length source.now }
-    requires tree { deep ≤ 256 }
-    requires bracket { brackets ≤ 64 }
+    requires place { at ≤ length source.now.words }
+    requires tree { deep ≤ source.now.limits.trees }
+    requires bracket { brackets ≤ source.now.limits.brackets }
     requires tall { 1 ≤ first.height }
-    requires height { deep + first.height ≤ 257 }
+    requires height { deep + first.height ≤ source.now.limits.trees + 1 }
     ensures reads { Gives goes_same (same_in (in_size deep brackets) first) source.now at result }
-    ensures further { IfOk result (λ r. at ≤ r.1 × (r.1 ≤ length source.now)) }
-    ensures bounded { IfOk result (λ r. (1 ≤ r.0.1) × (deep + r.0.1 ≤ 257)) }
+    ensures further { IfOk result (λ r. at ≤ r.1 × (r.1 ≤ length source.now.words)) }
+    ensures bounded { IfOk result (λ r. (1 ≤ r.0.1) × (deep + r.0.1 ≤ source.now.limits.trees + 1)) }
 {
     if !source.is(at, TokenKind::Match) {
         return Ok(((first.tree, first.height), at));
     }
-    if deep + first.height > 256 {
+    if deep + first.height > source.trees() {
         return Err(Fault::Refused(at, Cause::TooDeep));
     }
     let place = first.at;
@@ -94,12 +94,12 @@ pub fn pat(
     deep: usize,
     brackets: usize,
 ) -> Result<(Placed<Pattern>, usize), Fault>
-    requires place { at ≤ length source.now }
-    requires tree { deep ≤ 256 }
-    requires bracket { brackets ≤ 64 }
+    requires place { at ≤ length source.now.words }
+    requires tree { deep ≤ source.now.limits.trees }
+    requires bracket { brackets ≤ source.now.limits.brackets }
     ensures reads { Gives closed (pat_in (in_size deep brackets)) source.now at result }
-    ensures further { IfOk result (λ r. at < r.1 × (r.1 ≤ length source.now)) }
-    ensures bounded { IfOk result (λ r. (1 ≤ r.0.height) × (deep + r.0.height ≤ 257)) }
+    ensures further { IfOk result (λ r. at < r.1 × (r.1 ≤ length source.now.words)) }
+    ensures bounded { IfOk result (λ r. (1 ≤ r.0.height) × (deep + r.0.height ≤ source.now.limits.trees + 1)) }
 {
     let Some(numbered) = source.token(at) else {
         return Err(Fault::Refused(at, Cause::Syntax));
@@ -108,7 +108,7 @@ pub fn pat(
     if !opens_pattern(kind) {
         return leaf(alloc, source, at, numbered);
     }
-    if brackets >= 64 {
+    if brackets >= source.brackets() {
         return Err(Fault::Refused(at, Cause::TooDeep));
     }
     let place = numbered.token.span;
@@ -192,19 +192,19 @@ pub fn patterns(
     brackets: usize,
     close: TokenKind,
 ) -> Result<((Listed<Pattern>, usize), usize), Fault>
-    requires place { at ≤ length source.now }
-    requires tree { deep ≤ 257 }
-    requires bracket { brackets ≤ 64 }
+    requires place { at ≤ length source.now.words }
+    requires tree { deep ≤ source.now.limits.trees + 1 }
+    requires bracket { brackets ≤ source.now.limits.brackets }
     requires closes { ClosesPatterns close }
     ensures reads { Gives closed (patterns_in close (in_size deep brackets)) source.now at result }
-    ensures further { IfOk result (λ r. at < r.1 × (r.1 ≤ length source.now)) }
-    ensures bounded { IfOk result (λ r. deep + r.0.1 ≤ 257) }
+    ensures further { IfOk result (λ r. at < r.1 × (r.1 ≤ length source.now.words)) }
+    ensures bounded { IfOk result (λ r. deep + r.0.1 ≤ source.now.limits.trees + 1) }
 {
     let mut items = Vec::new(alloc);
     if source.is(at, close) {
         return Ok(((Listed::of(items), 0), at + 1));
     }
-    if deep > 256 {
+    if deep > source.trees() {
         return Err(Fault::Refused(at, pattern_cause(source, at)));
     }
     let mut height = 0;
@@ -232,19 +232,19 @@ fn pattern_list(
     deep: usize,
     brackets: usize,
 ) -> Result<(((Listed<Pattern>, Listed<Pattern>), usize), usize), Fault>
-    requires place { at ≤ length source.now }
-    requires tree { deep ≤ 257 }
-    requires bracket { brackets ≤ 64 }
+    requires place { at ≤ length source.now.words }
+    requires tree { deep ≤ source.now.limits.trees + 1 }
+    requires bracket { brackets ≤ source.now.limits.brackets }
     ensures reads { Gives closed (pattern_list_in (in_size deep brackets)) source.now at result }
-    ensures further { IfOk result (λ r. at < r.1 × (r.1 ≤ length source.now)) }
-    ensures bounded { IfOk result (λ r. deep + r.0.1 ≤ 257) }
+    ensures further { IfOk result (λ r. at < r.1 × (r.1 ≤ length source.now.words)) }
+    ensures bounded { IfOk result (λ r. deep + r.0.1 ≤ source.now.limits.trees + 1) }
 {
     let mut items = Vec::new(alloc);
     if source.is(at, TokenKind::RightBracket) {
         let tail = Listed::of(Vec::new(alloc));
         return Ok((((Listed::of(items), tail), 0), at + 1));
     }
-    if deep > 256 {
+    if deep > source.trees() {
         return Err(Fault::Refused(at, pattern_cause(source, at)));
     }
     let mut height = 0;
@@ -270,12 +270,12 @@ fn pattern_end(
     deep: usize,
     brackets: usize,
 ) -> Result<((Listed<Pattern>, usize), usize), Fault>
-    requires place { at ≤ length source.now }
-    requires tree { deep ≤ 256 }
-    requires bracket { brackets ≤ 64 }
+    requires place { at ≤ length source.now.words }
+    requires tree { deep ≤ source.now.limits.trees }
+    requires bracket { brackets ≤ source.now.limits.brackets }
     ensures reads { Gives closed (pattern_end_in (in_size deep brackets)) source.now at result }
-    ensures further { IfOk result (λ r. at < r.1 × (r.1 ≤ length source.now)) }
-    ensures bounded { IfOk result (λ r. deep + r.0.1 ≤ 257) }
+    ensures further { IfOk result (λ r. at < r.1 × (r.1 ≤ length source.now.words)) }
+    ensures bounded { IfOk result (λ r. deep + r.0.1 ≤ source.now.limits.trees + 1) }
 {
     if source.is(at, TokenKind::RightBracket) {
         return Ok(((Listed::of(Vec::new(alloc)), 0), at + 1));

@@ -69,10 +69,10 @@ fn named(chars: &[u8]) -> Option<Spec>
 /// `unit` at that place, with its number behind it.
 fn unit(source: &Source, at: usize) -> Result<(Spec, usize), Fault>
     requires unit { UnitAt source.now at }
-    requires within { at < length source.now }
-    requires short { length source.now < 2 ^ 64 }
+    requires within { at < length source.now.words }
+    requires short { length source.now.words < 2 ^ 64 }
     ensures reads { Gives closed spec_in source.now at result }
-    ensures further { IfOk result (λ r. at < r.1 × (r.1 ≤ length source.now)) }
+    ensures further { IfOk result (λ r. at < r.1 × (r.1 ≤ length source.now.words)) }
 {
     if !source.is(at + 1, TokenKind::Colon) {
         return Err(Fault::Refused(at + 1, Cause::Syntax));
@@ -89,9 +89,9 @@ fn unit(source: &Source, at: usize) -> Result<(Spec, usize), Fault>
 
 /// A word of a segment's type; behind `unit` stands its number.
 pub fn spec(alloc: Global, source: &Source, at: usize) -> Result<(Spec, usize), Fault>
-    requires { at ≤ length source.now }
+    requires { at ≤ length source.now.words }
     ensures reads { Gives closed spec_in source.now at result }
-    ensures further { IfOk result (λ r. at < r.1 × (r.1 ≤ length source.now)) }
+    ensures further { IfOk result (λ r. at < r.1 × (r.1 ≤ length source.now.words)) }
 {
     if !source.is(at, TokenKind::Atom) {
         return Err(Fault::Refused(at, Cause::Syntax));
@@ -115,9 +115,9 @@ pub fn segment_type(
     value: Expr,
     size: Option<Expr>,
 ) -> Result<(Segment, usize), Fault>
-    requires { at ≤ length source.now }
+    requires { at ≤ length source.now.words }
     ensures reads { Gives goes_typed (segment_type_in place value size) source.now at result }
-    ensures further { IfOk result (λ r. at ≤ r.1 × (r.1 ≤ length source.now)) }
+    ensures further { IfOk result (λ r. at ≤ r.1 × (r.1 ≤ length source.now.words)) }
 {
     let mut specs = Vec::new(alloc);
     if !source.is(at, TokenKind::Slash) {

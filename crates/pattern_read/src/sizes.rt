@@ -16,10 +16,11 @@ use std::alloc::Global;
 
 /// The operator of that level at that place, where one may stand in a size: any but `!`.
 fn size_operator(source: &Source, at: usize, wanted: usize) -> Option<Op>
-    requires { at ≤ length source.now }
-    ensures operator { MatchOption result (NoneInSize wanted (drop at source.now)) (λ op. OperatorAt source.now at wanted op) }
-    ensures within { OnSome result (at < length source.now) }
-    ensures short { length source.now < 2 ^ 64 }
+    requires { at ≤ length source.now.words }
+    ensures operator { MatchOption result (NoneInSize wanted (drop at source.now.words)) (λ op. OperatorAt source.now at wanted op) }
+    ensures within { OnSome result (at < length source.now.words) }
+    ensures short { length source.now.words < 2 ^ 64 }
+    ensures trees { source.now.limits.trees ≤ 2 ^ 32 }
 {
     let Some(numbered) = source.token(at) else {
         return None;
@@ -44,13 +45,13 @@ pub fn size_level(
     deep: usize,
     brackets: usize,
 ) -> Result<(Placed<Expr>, usize), Fault>
-    requires place { at ≤ length source.now }
-    requires tree { deep ≤ 256 }
-    requires bracket { brackets ≤ 64 }
+    requires place { at ≤ length source.now.words }
+    requires tree { deep ≤ source.now.limits.trees }
+    requires bracket { brackets ≤ source.now.limits.brackets }
     requires low { wanted ≤ 6 }
     ensures reads { Gives (extends wanted) (level_in wanted (in_size deep brackets)) source.now at result }
-    ensures further { IfOk result (λ r. at < r.1 × (r.1 ≤ length source.now)) }
-    ensures bounded { IfOk result (λ r. (1 ≤ r.0.height) × (deep + r.0.height ≤ 257)) }
+    ensures further { IfOk result (λ r. at < r.1 × (r.1 ≤ length source.now.words)) }
+    ensures bounded { IfOk result (λ r. (1 ≤ r.0.height) × (deep + r.0.height ≤ source.now.limits.trees + 1)) }
 {
     if wanted == 6 {
         return size_operand(alloc, source, at, deep, brackets);
@@ -79,20 +80,20 @@ fn size_tail(
     brackets: usize,
     left: Placed<Expr>,
 ) -> Result<((Expr, usize), usize), Fault>
-    requires place { at ≤ length source.now }
-    requires tree { deep ≤ 256 }
-    requires bracket { brackets ≤ 64 }
+    requires place { at ≤ length source.now.words }
+    requires tree { deep ≤ source.now.limits.trees }
+    requires bracket { brackets ≤ source.now.limits.brackets }
     requires low { wanted < 6 }
     requires tall { 1 ≤ left.height }
-    requires height { deep + left.height ≤ 257 }
+    requires height { deep + left.height ≤ source.now.limits.trees + 1 }
     ensures reads { Gives (extends wanted) (tail_in wanted (in_size deep brackets) left) source.now at result }
-    ensures further { IfOk result (λ r. at ≤ r.1 × (r.1 ≤ length source.now)) }
-    ensures bounded { IfOk result (λ r. (1 ≤ r.0.1) × (deep + r.0.1 ≤ 257)) }
+    ensures further { IfOk result (λ r. at ≤ r.1 × (r.1 ≤ length source.now.words)) }
+    ensures bounded { IfOk result (λ r. (1 ≤ r.0.1) × (deep + r.0.1 ≤ source.now.limits.trees + 1)) }
 {
     let Some(op) = size_operator(source, at, wanted) else {
         return Ok(((left.tree, left.height), at));
     };
-    if deep + left.height > 256 {
+    if deep + left.height > source.trees() {
         return Err(Fault::Refused(at, Cause::TooDeep));
     }
     let (right, next) = size_level(alloc, source, at + 1, right_of(wanted), deep + 1, brackets)?;
@@ -110,8 +111,8 @@ fn binary(
     left: Placed<Expr>,
     right: Placed<Expr>,
 ) -> Result<Placed<Expr>, Fault>
-    requires left { left.height ≤ 256 }
-    requires right { right.height ≤ 256 }
+    requires left { left.height ≤ 2 ^ 32 }
+    requires right { right.height ≤ 2 ^ 32 }
     ensures joined { IfOk result (λ r. r ≡ joined left op right) }
     ensures memory { IfErr result (λ e. e ≡ Memory) }
 {
@@ -146,19 +147,19 @@ fn size_operand(
     deep: usize,
     brackets: usize,
 ) -> Result<(Placed<Expr>, usize), Fault>
-    requires place { at ≤ length source.now }
-    requires tree { deep ≤ 256 }
-    requires bracket { brackets ≤ 64 }
+    requires place { at ≤ length source.now.words }
+    requires tree { deep ≤ source.now.limits.trees }
+    requires bracket { brackets ≤ source.now.limits.brackets }
     ensures reads { Gives calls (operand_in (in_size deep brackets)) source.now at result }
-    ensures further { IfOk result (λ r. at < r.1 × (r.1 ≤ length source.now)) }
-    ensures bounded { IfOk result (λ r. (1 ≤ r.0.height) × (deep + r.0.height ≤ 257)) }
+    ensures further { IfOk result (λ r. at < r.1 × (r.1 ≤ length source.now.words)) }
+    ensures bounded { IfOk result (λ r. (1 ≤ r.0.height) × (deep + r.0.height ≤ source.now.limits.trees + 1)) }
 {
     let Some(numbered) = source.token(at) else {
         return Err(Fault::Refused(at, Cause::Syntax));
     };
     let place = numbered.token.span;
     if let Some(op) = prefix(numbered.token.kind) {
-        if deep >= 256 {
+        if deep >= source.trees() {
             return Err(Fault::Refused(at, Cause::TooDeep));
         }
         let (part, next) = size_operand(alloc, source, at + 1, deep + 1, brackets)?;
@@ -254,7 +255,7 @@ fn size_operand(
             ))
         }
         TokenKind::LeftParen => {
-            if brackets >= 64 {
+            if brackets >= source.brackets() {
                 return Err(Fault::Refused(at, Cause::TooDeep));
             }
             let (inner, after) = size_level(alloc, source, at + 1, 0, deep, brackets + 1)?;
@@ -283,12 +284,12 @@ fn size_after_atom(
     place: Span,
     name: u32,
 ) -> Result<((Expr, usize), usize), Fault>
-    requires place { at ≤ length source.now }
-    requires tree { deep ≤ 256 }
-    requires bracket { brackets ≤ 64 }
+    requires place { at ≤ length source.now.words }
+    requires tree { deep ≤ source.now.limits.trees }
+    requires bracket { brackets ≤ source.now.limits.brackets }
     ensures reads { Gives calls (after_atom_in (in_size deep brackets) place name) source.now at result }
-    ensures further { IfOk result (λ r. at ≤ r.1 × (r.1 ≤ length source.now)) }
-    ensures bounded { IfOk result (λ r. (1 ≤ r.0.1) × (deep + r.0.1 ≤ 257)) }
+    ensures further { IfOk result (λ r. at ≤ r.1 × (r.1 ≤ length source.now.words)) }
+    ensures bounded { IfOk result (λ r. (1 ≤ r.0.1) × (deep + r.0.1 ≤ source.now.limits.trees + 1)) }
 {
     if !source.is(at, TokenKind::LeftParen) {
         return size_qualified(
@@ -304,7 +305,7 @@ fn size_after_atom(
             },
         );
     }
-    if brackets >= 64 {
+    if brackets >= source.brackets() {
         return Err(Fault::Refused(at, Cause::TooDeep));
     }
     let ((args, height), next) = size_exprs(
@@ -341,20 +342,20 @@ fn size_qualified(
     place: Span,
     qualifier: Expr,
 ) -> Result<((Expr, usize), usize), Fault>
-    requires place { at ≤ length source.now }
-    requires tree { deep ≤ 256 }
-    requires bracket { brackets ≤ 64 }
+    requires place { at ≤ length source.now.words }
+    requires tree { deep ≤ source.now.limits.trees }
+    requires bracket { brackets ≤ source.now.limits.brackets }
     ensures reads { Gives calls (qualified_in (in_size deep brackets) place qualifier) source.now at result }
-    ensures further { IfOk result (λ r. at ≤ r.1 × (r.1 ≤ length source.now)) }
-    ensures bounded { IfOk result (λ r. (1 ≤ r.0.1) × (deep + r.0.1 ≤ 257)) }
+    ensures further { IfOk result (λ r. at ≤ r.1 × (r.1 ≤ length source.now.words)) }
+    ensures bounded { IfOk result (λ r. (1 ≤ r.0.1) × (deep + r.0.1 ≤ source.now.limits.trees + 1)) }
 {
     if !source.is(at, TokenKind::Colon) {
         return Ok(((qualifier, 1), at));
     }
-    if deep >= 256 {
+    if deep >= source.trees() {
         return Err(Fault::Refused(at, Cause::TooDeep));
     }
-    if brackets >= 64 {
+    if brackets >= source.brackets() {
         return Err(Fault::Refused(at, Cause::TooDeep));
     }
     let Some(name) = source.atom(at + 1) else {
@@ -396,19 +397,19 @@ fn size_exprs(
     brackets: usize,
     close: TokenKind,
 ) -> Result<((Listed<Expr>, usize), usize), Fault>
-    requires place { at ≤ length source.now }
-    requires tree { deep ≤ 257 }
-    requires bracket { brackets ≤ 64 }
+    requires place { at ≤ length source.now.words }
+    requires tree { deep ≤ source.now.limits.trees + 1 }
+    requires bracket { brackets ≤ source.now.limits.brackets }
     requires closes { Closes close }
     ensures reads { Gives closed (exprs_in close (in_size deep brackets)) source.now at result }
-    ensures further { IfOk result (λ r. at < r.1 × (r.1 ≤ length source.now)) }
-    ensures bounded { IfOk result (λ r. deep + r.0.1 ≤ 257) }
+    ensures further { IfOk result (λ r. at < r.1 × (r.1 ≤ length source.now.words)) }
+    ensures bounded { IfOk result (λ r. deep + r.0.1 ≤ source.now.limits.trees + 1) }
 {
     let mut items = Vec::new(alloc);
     if source.is(at, close) {
         return Ok(((Listed::of(items), 0), at + 1));
     }
-    if deep > 256 {
+    if deep > source.trees() {
         return Err(Fault::Refused(at, first_cause(source, at)));
     }
     let mut height = 0;

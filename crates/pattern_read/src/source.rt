@@ -1,6 +1,7 @@
-ghost use Rattle.std.specs.Prelude.{◌≡◌, ◌≤◌, ◌<◌, ◌+◌, ◌^◌, ◌↔◌, ◌∷◌, [], List, length, drop, pos, false, IsTrue, IfOk, IfSome, OnSome, MatchOption};
+ghost use Rattle.std.specs.Prelude.{◌≡◌, ◌≤◌, ◌<◌, ◌+◌, ◌^◌, ◌↔◌, ◌∷◌, [], List, length, drop, take, pos, false, IsTrue, IfOk, IfSome, OnSome, MatchOption};
 ghost use Rattle.std.specs.Prelude.{All};
-ghost use Rattle.pattern_read.specs.Source.{StandsAt, IsSound, words, characters_of};
+ghost use Rattle.pattern_read.specs.Source.{StandsAt, IsSound, words, limits_of, characters_of};
+ghost use Rattle.erl_syntax.specs.Grammar.{strict};
 ghost use Rattle.pattern_read.specs.Wanted.{IsAt, AtomAt, ModuleAt, NoMark, NoModule, FirstCause, mark_in};
 ghost use Rattle.pattern_read.specs.Reading.{Gives, closed};
 ghost use Rattle.erl_syntax.specs.Word.{Word};
@@ -13,11 +14,25 @@ use erl_tokens::{atom_text, string_characters};
 use std::alloc::{AllocError, Global};
 use std::marker::Model;
 
-/// The tokens of a text with what they stand for, which contracts see as the list of their words.
+/// How deep a tree of a module may be.
+const DEEPEST_TREE: usize = 256;
+
+/// How many brackets and block words of a module may be open.
+const MOST_BRACKETS: usize = 64;
+
+/// Far deeper than any text that is read: those have at most 2^20 bytes.
+const NO_LIMIT: usize = 1 << 32;
+
+/// The tokens of a text with what they stand for, and how deep a module may be that is read of them. Contracts see the list
+/// of their words with these limits.
 #[derive(Debug, Drop)]
 pub struct Source {
     text: Vec<u8>,
     tokens: Vec<Numbered>,
+    /// How deep a tree may be.
+    trees: usize,
+    /// How many brackets and block words may be open.
+    brackets: usize,
 }
 
 /// A token with the number that it stands for.
@@ -57,34 +72,72 @@ pub fn are_sound(text: &[u8], tokens: &[Numbered]) -> bool
 }
 
 impl Model for Source {
-    ghost use Rattle.std.specs.Prelude.{List};
-    ghost use Rattle.erl_syntax.specs.Word.{Word};
-    ghost use Rattle.std.specs.Prelude.{All};
-    ghost use Rattle.pattern_read.specs.Source.{words, IsSound};
+    ghost use Rattle.std.specs.Prelude.{All, ◌≤◌, ◌^◌};
+    ghost use Rattle.pattern_read.specs.Source.{words, limits_of, IsSound, Readable};
 
-    ghost Value = { List Word };
+    ghost Value = { Readable };
 
-    ghost view = { λ source. words source.text.items source.tokens.items };
+    ghost view = { λ source. record { words = words source.text.items source.tokens.items; limits = limits_of source.trees source.brackets } };
 
-    ghost invariant = { λ source. All (IsSound source.text.items) source.tokens.items };
+    ghost invariant = { λ source. All (IsSound source.text.items) source.tokens.items × (256 ≤ source.trees) × (source.trees ≤ 2 ^ 32) × (64 ≤ source.brackets) × (source.brackets ≤ 2 ^ 32) };
 }
 
 impl Source {
-    /// A text with its tokens. Takes no memory.
+    /// A text with its tokens, to be read within the limits of modules. Takes no memory.
     pub fn of(text: Vec<u8>, tokens: Vec<Numbered>) -> Source
         requires { All (IsSound text.items) tokens.items }
-        ensures { result ≡ words text.items tokens.items }
+        ensures { result ≡ record { words = words text.items tokens.items; limits = strict } }
     {
-        Source { text, tokens }
+        Source {
+            text,
+            tokens,
+            trees: DEEPEST_TREE,
+            brackets: MOST_BRACKETS,
+        }
+    }
+
+    /// The tokens before that index alone, to be read however deep: the limits are past all that a text can have. Takes no
+    /// memory.
+    pub fn front(self, count: usize) -> Source
+        ensures { result ≡ record { words = take count self.words; limits = limits_of (2 ^ 32) (2 ^ 32) } }
+    {
+        let mut tokens = self.tokens;
+        tokens.truncate(count);
+        Source {
+            text: self.text,
+            tokens,
+            trees: NO_LIMIT,
+            brackets: NO_LIMIT,
+        }
+    }
+
+    /// How deep a tree may be.
+    pub fn trees(&self) -> usize
+        ensures trees { result ≡ self.now.limits.trees }
+        ensures least { 256 ≤ self.now.limits.trees }
+        ensures bounded { self.now.limits.trees ≤ 2 ^ 32 }
+    {
+        self.trees
+    }
+
+    /// How many brackets and block words may be open.
+    pub fn brackets(&self) -> usize
+        ensures brackets { result ≡ self.now.limits.brackets }
+        ensures least { 64 ≤ self.now.limits.brackets }
+        ensures bounded { self.now.limits.brackets ≤ 2 ^ 32 }
+    {
+        self.brackets
     }
 
     /// The token of that index.
     pub fn token(&self, at: usize) -> Option<Numbered>
-        requires { at ≤ length self.now }
-        ensures token { MatchOption result (drop at self.now ≡ []) (λ t. StandsAt self.now at t) }
-        ensures within { OnSome result (at < length self.now) }
+        requires { at ≤ length self.now.words }
+        ensures token { MatchOption result (drop at self.now.words ≡ []) (λ t. StandsAt self.now at t) }
+        ensures within { OnSome result (at < length self.now.words) }
         ensures narrow { IfSome result (λ t. t.value < 2 ^ 127) }
-        ensures short { length self.now < 2 ^ 64 }
+        ensures short { length self.now.words < 2 ^ 64 }
+        ensures trees { self.now.limits.trees ≤ 2 ^ 32 }
+        ensures brackets { self.now.limits.brackets ≤ 2 ^ 32 }
     {
         if at < self.tokens.len() {
             Some(self.tokens[at])
@@ -95,11 +148,13 @@ impl Source {
 
     /// Whether a token of that kind stands there.
     pub fn is(&self, at: usize, kind: TokenKind) -> bool
-        requires { at ≤ length self.now }
+        requires { at ≤ length self.now.words }
         ensures yes { IsTrue result → IsAt self.now at kind }
-        ensures no { result ≡ false → NoMark kind (drop at self.now) }
-        ensures within { IsTrue result → at < length self.now }
-        ensures short { length self.now < 2 ^ 64 }
+        ensures no { result ≡ false → NoMark kind (drop at self.now.words) }
+        ensures within { IsTrue result → at < length self.now.words }
+        ensures short { length self.now.words < 2 ^ 64 }
+        ensures trees { self.now.limits.trees ≤ 2 ^ 32 }
+        ensures brackets { self.now.limits.brackets ≤ 2 ^ 32 }
     {
         let Some(numbered) = self.token(at) else {
             return false;
@@ -113,10 +168,12 @@ impl Source {
 
     /// The number of the atom that stands there.
     pub fn atom(&self, at: usize) -> Option<u32>
-        requires { at ≤ length self.now }
-        ensures atom { MatchOption result (NoMark k.Atom (drop at self.now)) (λ n. AtomAt self.now at n) }
-        ensures within { OnSome result (at < length self.now) }
-        ensures short { length self.now < 2 ^ 64 }
+        requires { at ≤ length self.now.words }
+        ensures atom { MatchOption result (NoMark k.Atom (drop at self.now.words)) (λ n. AtomAt self.now at n) }
+        ensures within { OnSome result (at < length self.now.words) }
+        ensures short { length self.now.words < 2 ^ 64 }
+        ensures trees { self.now.limits.trees ≤ 2 ^ 32 }
+        ensures brackets { self.now.limits.brackets ≤ 2 ^ 32 }
     {
         let Some(numbered) = self.token(at) else {
             return None;
@@ -130,8 +187,8 @@ impl Source {
 
     /// The bytes of the name that stands there.
     pub fn name(&self, alloc: Global, at: usize) -> Result<Text, AllocError>
-        requires { at < length self.now }
-        ensures { IfOk result (λ name. (w : Word) (rest : List Word) → drop at self.now ≡ w ∷ rest → w.kind ≡ k.Variable → name ≡ w.chars) }
+        requires { at < length self.now.words }
+        ensures { IfOk result (λ name. (w : Word) (rest : List Word) → drop at self.now.words ≡ w ∷ rest → w.kind ≡ k.Variable → name ≡ w.chars) }
     {
         let bytes = self.bytes(at).to_vec(alloc)?;
         Ok(Text::of(bytes))
@@ -139,11 +196,13 @@ impl Source {
 
     /// Whether the variable `MODULE` stands there.
     pub fn is_module(&self, at: usize) -> bool
-        requires { at ≤ length self.now }
+        requires { at ≤ length self.now.words }
         ensures yes { IsTrue result → ModuleAt self.now at }
-        ensures no { result ≡ false → NoModule (drop at self.now) }
-        ensures within { IsTrue result → at < length self.now }
-        ensures short { length self.now < 2 ^ 64 }
+        ensures no { result ≡ false → NoModule (drop at self.now.words) }
+        ensures within { IsTrue result → at < length self.now.words }
+        ensures short { length self.now.words < 2 ^ 64 }
+        ensures trees { self.now.limits.trees ≤ 2 ^ 32 }
+        ensures brackets { self.now.limits.brackets ≤ 2 ^ 32 }
     {
         if !self.is(at, TokenKind::Variable) {
             return false;
@@ -157,16 +216,16 @@ impl Source {
 
     /// The characters of the atom that stands there. One in quotes is the same atom as without them.
     pub fn atom_characters(&self, alloc: Global, at: usize) -> Result<Text, AllocError>
-        requires { at < length self.now }
-        ensures { IfOk result (λ chars. (w : Word) (rest : List Word) → drop at self.now ≡ w ∷ rest → w.kind ≡ k.Atom → chars ≡ w.chars) }
+        requires { at < length self.now.words }
+        ensures { IfOk result (λ chars. (w : Word) (rest : List Word) → drop at self.now.words ≡ w ∷ rest → w.kind ≡ k.Atom → chars ≡ w.chars) }
     {
         atom_text(alloc, self.bytes(at))
     }
 
     /// The numbers of the characters of the string that stands there.
     pub fn string(&self, alloc: Global, at: usize) -> Result<Listed<u32>, AllocError>
-        requires { at < length self.now }
-        ensures { IfOk result (λ chars. (w : Word) (rest : List Word) → drop at self.now ≡ w ∷ rest → w.kind ≡ k.Str → chars ≡ w.chars) }
+        requires { at < length self.now.words }
+        ensures { IfOk result (λ chars. (w : Word) (rest : List Word) → drop at self.now.words ≡ w ∷ rest → w.kind ≡ k.Str → chars ≡ w.chars) }
     {
         let chars = string_characters(alloc, self.bytes(at))?;
         Ok(Listed::of(chars))
@@ -174,8 +233,8 @@ impl Source {
 
     /// The bytes of the token that stands there.
     fn bytes(&self, at: usize) -> &[u8]
-        requires { at < length self.now }
-        ensures { (w : Word) (rest : List Word) → drop at self.now ≡ w ∷ rest → w.chars ≡ characters_of w.kind result.now }
+        requires { at < length self.now.words }
+        ensures { (w : Word) (rest : List Word) → drop at self.now.words ≡ w ∷ rest → w.chars ≡ characters_of w.kind result.now }
     {
         let token = self.tokens[at].token;
         &self.text[token.from as usize..token.to as usize]
@@ -184,9 +243,9 @@ impl Source {
 
 /// Reads a token of that kind.
 pub fn mark(source: &Source, at: usize, kind: TokenKind) -> Result<((), usize), Fault>
-    requires { at ≤ length source.now }
+    requires { at ≤ length source.now.words }
     ensures reads { Gives closed (mark_in kind) source.now at result }
-    ensures further { IfOk result (λ r. (r.1 ≡ at + 1) × (at < length source.now)) }
+    ensures further { IfOk result (λ r. (r.1 ≡ at + 1) × (at < length source.now.words)) }
 {
     if source.is(at, kind) {
         Ok(((), at + 1))
@@ -197,8 +256,8 @@ pub fn mark(source: &Source, at: usize, kind: TokenKind) -> Result<((), usize), 
 
 /// Why no expression of a size stands where it would be too deep.
 pub fn first_cause(source: &Source, at: usize) -> Cause
-    requires { at ≤ length source.now }
-    ensures { FirstCause (drop at source.now) result }
+    requires { at ≤ length source.now.words }
+    ensures { FirstCause (drop at source.now.words) result }
 {
     let Some(numbered) = source.token(at) else {
         return Cause::Syntax;

@@ -21,8 +21,8 @@ use Rattle.body_read.proofs.+expr.Goals as goal
 pub operand::after_atom-returns-then-not-is-clause-reads : goal.operand::after_atom-returns-then-not-is-clause-reads
 operand::after_atom-returns-then-not-is-clause-reads t c = atom_alone (in_setting c.args.setting c.args.deep c.args.brackets) c.args.source.now c.args.at c.args.place c.args.name c.qualified.result (c.is.ensures.no (search rules)) c.qualified.ensures.reads
 
-pub operand::after_atom-returns-then-brackets-ge64-clause-reads : goal.operand::after_atom-returns-then-brackets-ge64-clause-reads
-operand::after_atom-returns-then-brackets-ge64-clause-reads t c = atom_deep (in_setting c.args.setting c.args.deep c.args.brackets) c.args.source.now c.args.at c.args.place c.args.name (c.is.ensures.yes (search rules)) (omega arith)
+pub operand::after_atom-returns-then-brackets-clause-reads : goal.operand::after_atom-returns-then-brackets-clause-reads
+operand::after_atom-returns-then-brackets-clause-reads t c = atom_deep (in_setting c.args.setting c.args.deep c.args.brackets) c.args.source.now c.args.at c.args.place c.args.name (c.is.ensures.yes (search rules)) (omega arith)
 
 pub operand::after_atom-returns-in_err-args-clause-reads : goal.operand::after_atom-returns-in_err-args-clause-reads
 operand::after_atom-returns-in_err-args-clause-reads t c = let p = err_from_is_err_and c.from_residual.result c.from_residual.ensures.1 in rw (p.1, p.2) (atom_err (in_setting c.args.setting c.args.deep c.args.brackets) c.args.source.now c.args.at c.args.place c.args.name _ (c.is.ensures.yes (search rules)) (omega arith) c.in_err-args.ensures.reads)
@@ -33,8 +33,8 @@ operand::after_atom-returns-clause-reads t c = atom_call (in_setting c.args.sett
 pub exprs::exprs-returns-then-is-clause-reads : goal.exprs::exprs-returns-then-is-clause-reads
 exprs::exprs-returns-then-is-clause-reads t c = exprs_empty c.args.close (in_setting c.args.setting c.args.deep c.args.brackets) c.args.source.now c.args.at c.of.result c.requires.closes (c.is.ensures.yes (search rules)) (c.of.ensures ∙ c.new-items.ensures.items)
 
-pub exprs::exprs-returns-then-deep-gt256-clause-reads : goal.exprs::exprs-returns-then-deep-gt256-clause-reads
-exprs::exprs-returns-then-deep-gt256-clause-reads t c = exprs_first_in c.args.setting c.args.close (in_setting c.args.setting c.args.deep c.args.brackets) (drop c.args.at c.args.source.now) c.cause_of_first.result refl c.cause_of_first.ensures (c.is.ensures.no (search rules)) (omega arith)
+pub exprs::exprs-returns-then-deep-trees-clause-reads : goal.exprs::exprs-returns-then-deep-trees-clause-reads
+exprs::exprs-returns-then-deep-trees-clause-reads t c = exprs_first_in c.args.setting c.args.close (in_setting c.args.setting c.args.deep c.args.brackets) (drop c.args.at c.args.source.now.words) c.cause_of_first.result refl c.cause_of_first.ensures (c.is.ensures.no (search rules)) (omega arith)
 
 pub exprs::exprs-loop-items-init : goal.exprs::exprs-loop-items-init
 exprs::exprs-loop-items-init t c = (omega arith, c.requires.place, omega arith, exprs_begin c.args.close (in_setting c.args.setting c.args.deep c.args.brackets) c.args.source.now c.args.at c.new-items.result.items (omega arith) (c.is.ensures.no (search rules)) c.new-items.ensures.items)
@@ -66,11 +66,11 @@ exprs::level-returns-clause-reads t c = level_whole (in_setting c.args.setting c
 pub operand::qualified-returns-then-not-is-clause-reads : goal.operand::qualified-returns-then-not-is-clause-reads
 operand::qualified-returns-then-not-is-clause-reads t c = qualified_alone (in_setting c.args.setting c.args.deep c.args.brackets) c.args.source.now c.args.at c.args.place c.args.qualifier (c.is.ensures.no (search rules))
 
-pub operand::qualified-returns-then-deep-ge256-clause-reads : goal.operand::qualified-returns-then-deep-ge256-clause-reads
-operand::qualified-returns-then-deep-ge256-clause-reads t c = qualified_deep (in_setting c.args.setting c.args.deep c.args.brackets) c.args.source.now c.args.at c.args.place c.args.qualifier (c.is.ensures.yes (search rules)) (inr (omega arith))
+pub operand::qualified-returns-then-deep-trees-clause-reads : goal.operand::qualified-returns-then-deep-trees-clause-reads
+operand::qualified-returns-then-deep-trees-clause-reads t c = qualified_deep (in_setting c.args.setting c.args.deep c.args.brackets) c.args.source.now c.args.at c.args.place c.args.qualifier (c.is.ensures.yes (search rules)) (inr (omega arith))
 
-pub operand::qualified-returns-then-brackets-ge64-clause-reads : goal.operand::qualified-returns-then-brackets-ge64-clause-reads
-operand::qualified-returns-then-brackets-ge64-clause-reads t c = qualified_deep (in_setting c.args.setting c.args.deep c.args.brackets) c.args.source.now c.args.at c.args.place c.args.qualifier (c.is.ensures.yes (search rules)) (inl (omega arith))
+pub operand::qualified-returns-then-brackets-clause-reads : goal.operand::qualified-returns-then-brackets-clause-reads
+operand::qualified-returns-then-brackets-clause-reads t c = qualified_deep (in_setting c.args.setting c.args.deep c.args.brackets) c.args.source.now c.args.at c.args.place c.args.qualifier (c.is.ensures.yes (search rules)) (inl (omega arith))
 
 pub operand::qualified-returns-in_default-clause-reads : goal.operand::qualified-returns-in_default-clause-reads
 operand::qualified-returns-in_default-clause-reads t c = qualified_no_name (in_setting c.args.setting c.args.deep c.args.brackets) c.args.source.now c.args.at c.args.place c.args.qualifier (c.is.ensures.yes (search rules)) (omega arith) (omega arith) c.in_default.ensures.atom
@@ -87,8 +87,8 @@ operand::qualified-returns-clause-reads t c = qualified_ok (in_setting c.args.se
 pub exprs::tail-returns-in_default-clause-reads : goal.exprs::tail-returns-in_default-clause-reads
 exprs::tail-returns-in_default-clause-reads t c = alone_in c.args.setting (in_setting c.args.setting c.args.deep c.args.brackets) c.args.wanted c.args.source.now c.args.at c.args.left refl c.in_default.ensures.operator
 
-pub exprs::tail-returns-then-deep-left-gt256-clause-reads : goal.exprs::tail-returns-then-deep-left-gt256-clause-reads
-exprs::tail-returns-then-deep-left-gt256-clause-reads t c = operator_deep c.args.setting (in_setting c.args.setting c.args.deep c.args.brackets) c.args.wanted c.args.source.now c.args.at c.args.left c.in-Some.op refl c.in-Some.ensures.operator (omega arith)
+pub exprs::tail-returns-then-deep-left-clause-reads : goal.exprs::tail-returns-then-deep-left-clause-reads
+exprs::tail-returns-then-deep-left-clause-reads t c = operator_deep c.args.setting (in_setting c.args.setting c.args.deep c.args.brackets) c.args.wanted c.args.source.now c.args.at c.args.left c.in-Some.op refl c.in-Some.ensures.operator (omega arith)
 
 pub exprs::tail-returns-in_err-right-clause-reads : goal.exprs::tail-returns-in_err-right-clause-reads
 exprs::tail-returns-in_err-right-clause-reads t c = let p = err_from_is_err_and c.from_residual.result c.from_residual.ensures.1 in rw (p.1, p.2) (operator_err c.args.setting (in_setting c.args.setting c.args.deep c.args.brackets) c.args.wanted c.right_of.result c.args.source.now c.args.at c.args.left c.in-Some.op _ refl c.in-Some.ensures.operator c.right_of.ensures.level (omega arith) c.in_err-right.ensures.reads)
@@ -117,8 +117,8 @@ operand::operand-returns-in_err-tree-in-Question-clause-reads t c = let p = err_
 pub operand::operand-returns-in_ok-tree-in-Question-clause-reads : goal.operand::operand-returns-in_ok-tree-in-Question-clause-reads
 operand::operand-returns-in_ok-tree-in-Question-clause-reads t c = operand_macro_ok (in_setting c.args.setting c.args.deep c.args.brackets) c.args.source.now c.args.at c.in_ok-tree-in-Question.next c.in-Some.numbered c.in_ok-tree-in-Question.tree c.in_ok-tree-in-Question.height c.in-Some.ensures.token c.in-Question.is (c.is_module.ensures.yes (search rules)) c.in_ok-tree-in-Question.ensures.reads
 
-pub operand::operand-returns-then-brackets-ge64-clause-reads : goal.operand::operand-returns-then-brackets-ge64-clause-reads
-operand::operand-returns-then-brackets-ge64-clause-reads t c = operand_list_deep (in_setting c.args.setting c.args.deep c.args.brackets) c.args.source.now c.args.at c.in-Some.numbered (not_size c.args.setting _ refl) c.in-Some.ensures.token c.in-LeftBracket.is (omega arith)
+pub operand::operand-returns-then-brackets-clause-reads : goal.operand::operand-returns-then-brackets-clause-reads
+operand::operand-returns-then-brackets-clause-reads t c = operand_list_deep (in_setting c.args.setting c.args.deep c.args.brackets) c.args.source.now c.args.at c.in-Some.numbered (not_size c.args.setting _ refl) c.in-Some.ensures.token c.in-LeftBracket.is (omega arith)
 
 pub operand::operand-returns-in_err-tree-in-LeftBracket-clause-reads : goal.operand::operand-returns-in_err-tree-in-LeftBracket-clause-reads
 operand::operand-returns-in_err-tree-in-LeftBracket-clause-reads t c = let p = err_from_is_err_and c.from_residual-in_err-tree-in-LeftBracket.result c.from_residual-in_err-tree-in-LeftBracket.ensures.1 in rw (p.1, p.2) (operand_list_err (in_setting c.args.setting c.args.deep c.args.brackets) c.args.source.now c.args.at c.in-Some.numbered _ (not_size c.args.setting _ refl) c.in-Some.ensures.token c.in-LeftBracket.is (omega arith) c.in_err-tree-in-LeftBracket.ensures.reads)
@@ -129,8 +129,8 @@ operand::operand-returns-in_ok-tree-in-LeftBracket-clause-reads t c = operand_li
 pub operand::operand-returns-in_default-kind : goal.operand::operand-returns-in_default-kind
 operand::operand-returns-in_default-kind t c = record { reads = operand_common c.args.setting c.args.deep c.args.brackets c.args.source.now c.args.at c.in-Some.numbered c.common.result c.in-Some.ensures.token (λ op e. c.in_default-prefix.not-Some op (c.prefix.ensures ∙ e)) c.in_default-kind.not-Atom c.in_default-kind.not-Question c.in_default-kind.not-LeftBrace c.in_default-kind.not-LeftBracket (λ h. search rules) c.common.ensures.reads; further = c.common.ensures.further; bounded = c.common.ensures.bounded }
 
-pub operand::prefixed-returns-then-deep-ge256-clause-reads : goal.operand::prefixed-returns-then-deep-ge256-clause-reads
-operand::prefixed-returns-then-deep-ge256-clause-reads t c = operand_prefix_deep (in_setting c.args.setting c.args.deep c.args.brackets) c.args.source.now c.args.at c.args.numbered c.args.op c.requires.token c.requires.operator (omega arith)
+pub operand::prefixed-returns-then-deep-trees-clause-reads : goal.operand::prefixed-returns-then-deep-trees-clause-reads
+operand::prefixed-returns-then-deep-trees-clause-reads t c = operand_prefix_deep (in_setting c.args.setting c.args.deep c.args.brackets) c.args.source.now c.args.at c.args.numbered c.args.op c.requires.token c.requires.operator (omega arith)
 
 pub operand::prefixed-returns-in_err-part-clause-reads : goal.operand::prefixed-returns-in_err-part-clause-reads
 operand::prefixed-returns-in_err-part-clause-reads t c = let p = err_from_is_err_and c.from_residual.result c.from_residual.ensures.1 in rw (p.1, p.2) (operand_prefix_err (in_setting c.args.setting c.args.deep c.args.brackets) c.args.source.now c.args.at c.args.numbered c.args.op _ c.requires.token c.requires.operator (omega arith) c.in_err-part.ensures.reads)
@@ -138,8 +138,8 @@ operand::prefixed-returns-in_err-part-clause-reads t c = let p = err_from_is_err
 pub operand::prefixed-returns-clause-reads : goal.operand::prefixed-returns-clause-reads
 operand::prefixed-returns-clause-reads t c = operand_prefix_ok (in_setting c.args.setting c.args.deep c.args.brackets) c.args.source.now c.args.at c.in_ok-part.next c.args.numbered c.args.op c.in_ok-part.part c.in_ok-one.field-0 c.requires.token c.requires.operator (omega arith) c.in_ok-one.ensures.list c.in_ok-part.ensures.reads
 
-pub operand::tuple-returns-then-brackets-ge64-clause-reads : goal.operand::tuple-returns-then-brackets-ge64-clause-reads
-operand::tuple-returns-then-brackets-ge64-clause-reads t c = operand_tuple_deep (in_setting c.args.setting c.args.deep c.args.brackets) c.args.source.now c.args.at c.args.numbered (not_size c.args.setting _ refl) c.requires.token c.requires.brace (omega arith)
+pub operand::tuple-returns-then-brackets-clause-reads : goal.operand::tuple-returns-then-brackets-clause-reads
+operand::tuple-returns-then-brackets-clause-reads t c = operand_tuple_deep (in_setting c.args.setting c.args.deep c.args.brackets) c.args.source.now c.args.at c.args.numbered (not_size c.args.setting _ refl) c.requires.token c.requires.brace (omega arith)
 
 pub operand::tuple-returns-in_err-items-clause-reads : goal.operand::tuple-returns-in_err-items-clause-reads
 operand::tuple-returns-in_err-items-clause-reads t c = let p = err_from_is_err_and c.from_residual.result c.from_residual.ensures.1 in rw (p.1, p.2) (operand_tuple_err (in_setting c.args.setting c.args.deep c.args.brackets) c.args.source.now c.args.at c.args.numbered _ (not_size c.args.setting _ refl) c.requires.token c.requires.brace (omega arith) c.in_err-items.ensures.reads)
@@ -147,11 +147,11 @@ operand::tuple-returns-in_err-items-clause-reads t c = let p = err_from_is_err_a
 pub operand::tuple-returns-clause-reads : goal.operand::tuple-returns-clause-reads
 operand::tuple-returns-clause-reads t c = operand_tuple_ok (in_setting c.args.setting c.args.deep c.args.brackets) c.args.source.now c.args.at c.in_ok-items.next c.args.numbered c.in_ok-items.items c.in_ok-items.height (not_size c.args.setting _ refl) c.requires.token c.requires.brace (omega arith) c.in_ok-items.ensures.reads
 
-pub operand::block-returns-then-deep-ge256-clause-reads : goal.operand::block-returns-then-deep-ge256-clause-reads
-operand::block-returns-then-deep-ge256-clause-reads t c = operand_block_deep (in_body c.args.deep c.args.brackets) c.args.source.now c.args.at c.args.numbered refl c.requires.token c.requires.begins (inr (omega arith))
+pub operand::block-returns-then-deep-trees-clause-reads : goal.operand::block-returns-then-deep-trees-clause-reads
+operand::block-returns-then-deep-trees-clause-reads t c = operand_block_deep (in_body c.args.deep c.args.brackets) c.args.source.now c.args.at c.args.numbered refl c.requires.token c.requires.begins (inr (omega arith))
 
-pub operand::block-returns-then-brackets-ge64-clause-reads : goal.operand::block-returns-then-brackets-ge64-clause-reads
-operand::block-returns-then-brackets-ge64-clause-reads t c = operand_block_deep (in_body c.args.deep c.args.brackets) c.args.source.now c.args.at c.args.numbered refl c.requires.token c.requires.begins (inl (omega arith))
+pub operand::block-returns-then-brackets-clause-reads : goal.operand::block-returns-then-brackets-clause-reads
+operand::block-returns-then-brackets-clause-reads t c = operand_block_deep (in_body c.args.deep c.args.brackets) c.args.source.now c.args.at c.args.numbered refl c.requires.token c.requires.begins (inl (omega arith))
 
 pub operand::block-returns-in_err-value-in-Case-clause-reads : goal.operand::block-returns-in_err-value-in-Case-clause-reads
 operand::block-returns-in_err-value-in-Case-clause-reads t c = let p = err_from_is_err_and c.from_residual.result c.from_residual.ensures.1 in rw (p.1, p.2) (operand_case_err (in_body c.args.deep c.args.brackets) c.args.source.now c.args.at c.args.numbered _ refl c.requires.token c.in-Case.is (omega arith) (omega arith) c.in_err-value-in-Case.ensures.reads)
@@ -174,8 +174,8 @@ operand::block-returns-in_ok-branches-in_default t c = record { reads = operand_
 pub operand::common-returns-in_default-clause-reads : goal.operand::common-returns-in_default-clause-reads
 operand::common-returns-in_default-clause-reads t c = common_at_end (in_setting c.args.setting c.args.deep c.args.brackets) c.args.source.now c.args.at c.in_default.ensures.token
 
-pub operand::common-returns-then-brackets-ge64-clause-reads : goal.operand::common-returns-then-brackets-ge64-clause-reads
-operand::common-returns-then-brackets-ge64-clause-reads t c = common_bits_deep (in_setting c.args.setting c.args.deep c.args.brackets) c.args.source.now c.args.at c.in-Some.numbered (not_size c.args.setting _ refl) c.in-Some.ensures.token c.in-LeftBits.is (omega arith)
+pub operand::common-returns-then-brackets-clause-reads : goal.operand::common-returns-then-brackets-clause-reads
+operand::common-returns-then-brackets-clause-reads t c = common_bits_deep (in_setting c.args.setting c.args.deep c.args.brackets) c.args.source.now c.args.at c.in-Some.numbered (not_size c.args.setting _ refl) c.in-Some.ensures.token c.in-LeftBits.is (omega arith)
 
 pub operand::common-returns-in_err-tree-in-LeftBits-clause-reads : goal.operand::common-returns-in_err-tree-in-LeftBits-clause-reads
 operand::common-returns-in_err-tree-in-LeftBits-clause-reads t c = let p = err_from_is_err_and c.from_residual.result c.from_residual.ensures.1 in rw (p.1, p.2) (common_bits_err (in_setting c.args.setting c.args.deep c.args.brackets) c.args.source.now c.args.at c.in-Some.numbered _ (not_size c.args.setting _ refl) c.in-Some.ensures.token c.in-LeftBits.is (omega arith) c.in_err-tree-in-LeftBits.ensures.reads)
@@ -183,8 +183,8 @@ operand::common-returns-in_err-tree-in-LeftBits-clause-reads t c = let p = err_f
 pub operand::common-returns-in_ok-tree-in-LeftBits-clause-reads : goal.operand::common-returns-in_ok-tree-in-LeftBits-clause-reads
 operand::common-returns-in_ok-tree-in-LeftBits-clause-reads t c = common_bits_ok (in_setting c.args.setting c.args.deep c.args.brackets) c.args.source.now c.args.at c.in_ok-tree-in-LeftBits.next c.in-Some.numbered c.in_ok-tree-in-LeftBits.tree c.in_ok-tree-in-LeftBits.height (not_size c.args.setting _ refl) c.in-Some.ensures.token c.in-LeftBits.is (omega arith) c.in_ok-tree-in-LeftBits.ensures.reads
 
-pub operand::common-returns-then-brackets-ge64-2-clause-reads : goal.operand::common-returns-then-brackets-ge64-2-clause-reads
-operand::common-returns-then-brackets-ge64-2-clause-reads t c = common_paren_deep (in_setting c.args.setting c.args.deep c.args.brackets) c.args.source.now c.args.at c.in-Some.numbered c.in-Some.ensures.token c.in-LeftParen.is (omega arith)
+pub operand::common-returns-then-brackets-2-clause-reads : goal.operand::common-returns-then-brackets-2-clause-reads
+operand::common-returns-then-brackets-2-clause-reads t c = common_paren_deep (in_setting c.args.setting c.args.deep c.args.brackets) c.args.source.now c.args.at c.in-Some.numbered c.in-Some.ensures.token c.in-LeftParen.is (omega arith)
 
 pub operand::common-returns-in_err-inner-in-LeftParen-clause-reads : goal.operand::common-returns-in_err-inner-in-LeftParen-clause-reads
 operand::common-returns-in_err-inner-in-LeftParen-clause-reads t c = let p = err_from_is_err_and c.from_residual-in_err-inner-in-LeftParen.result c.from_residual-in_err-inner-in-LeftParen.ensures.1 in rw (p.1, p.2) (common_inner_err (in_setting c.args.setting c.args.deep c.args.brackets) c.args.source.now c.args.at c.in-Some.numbered _ c.in-Some.ensures.token c.in-LeftParen.is (omega arith) c.in_err-inner-in-LeftParen.ensures.reads)
@@ -196,7 +196,7 @@ pub operand::common-returns-in_ok-next-in-LeftParen-clause-reads : goal.operand:
 operand::common-returns-in_ok-next-in-LeftParen-clause-reads t c = common_close (in_setting c.args.setting c.args.deep c.args.brackets) c.args.source.now c.args.at c.in_ok-inner-in-LeftParen.after c.in_ok-next-in-LeftParen.next c.in-Some.numbered c.in_ok-inner-in-LeftParen.inner _ c.in-Some.ensures.token c.in-LeftParen.is (omega arith) c.in_ok-inner-in-LeftParen.ensures.reads c.in_ok-next-in-LeftParen.ensures.reads
 
 pub operand::common-returns-in_default-kind : goal.operand::common-returns-in_default-kind
-operand::common-returns-in_default-kind t c = record { reads = c.literal.ensures.reads (in_setting c.args.setting c.args.deep c.args.brackets) (not_size c.args.setting _ refl); further = c.literal.ensures.further; bounded = literal_low c.args.deep c.literal.result c.requires.tree c.literal.ensures.height }
+operand::common-returns-in_default-kind t c = record { reads = c.literal.ensures.reads (in_setting c.args.setting c.args.deep c.args.brackets) (not_size c.args.setting _ refl); further = c.literal.ensures.further; bounded = literal_low c.args.source.now.limits c.args.deep c.literal.result c.requires.tree c.literal.ensures.height }
 
 pub operand::case_parts-returns-in_err-value-clause-reads : goal.operand::case_parts-returns-in_err-value-clause-reads
 operand::case_parts-returns-in_err-value-clause-reads t c = let p = err_from_is_err_and c.from_residual.result c.from_residual.ensures.1 in rw (p.1, p.2) (value_err (in_body c.args.deep c.args.brackets) c.args.source.now c.args.at _ c.in_err-value.ensures.reads)
@@ -213,8 +213,8 @@ operand::case_parts-returns-clause-reads t c = case_parts_ok (in_body c.args.dee
 pub lists::list-returns-then-is-clause-reads : goal.lists::list-returns-then-is-clause-reads
 lists::list-returns-then-is-clause-reads t c = list_empty_ok (in_setting c.args.setting c.args.deep c.args.brackets) c.args.source.now c.args.at c.args.place c.of-items.result c.of-tail.result (c.is.ensures.yes (search rules)) (c.of-items.ensures ∙ c.new.ensures.items) (c.of-tail.ensures ∙ c.new-then-is.ensures.items)
 
-pub lists::list-returns-then-deep-ge256-clause-reads : goal.lists::list-returns-then-deep-ge256-clause-reads
-lists::list-returns-then-deep-ge256-clause-reads t c = list_deep c.args.setting (in_setting c.args.setting c.args.deep c.args.brackets) c.args.source.now c.args.at c.args.place c.cause_of_first.result refl c.cause_of_first.ensures (c.is.ensures.no (search rules)) (omega arith)
+pub lists::list-returns-then-deep-trees-clause-reads : goal.lists::list-returns-then-deep-trees-clause-reads
+lists::list-returns-then-deep-trees-clause-reads t c = list_deep c.args.setting (in_setting c.args.setting c.args.deep c.args.brackets) c.args.source.now c.args.at c.args.place c.cause_of_first.result refl c.cause_of_first.ensures (c.is.ensures.no (search rules)) (omega arith)
 
 pub lists::list-returns-in_err-first-clause-reads : goal.lists::list-returns-in_err-first-clause-reads
 lists::list-returns-in_err-first-clause-reads t c = let p = err_from_is_err_and c.from_residual.result c.from_residual.ensures.1 in rw (p.1, p.2) (list_first_err (in_setting c.args.setting c.args.deep c.args.brackets) c.args.source.now c.args.at c.args.place _ (omega arith) (c.is.ensures.no (search rules)) c.in_err-first.ensures.reads)
@@ -261,8 +261,8 @@ lists::last-returns-clause-reads t c = last_ok k.RightBracket (in_setting c.args
 pub segments::bits-returns-then-is-clause-reads : goal.segments::bits-returns-then-is-clause-reads
 segments::bits-returns-then-is-clause-reads t c = bits_empty_ok (in_setting c.args.setting c.args.deep c.args.brackets) c.args.source.now c.args.at c.args.place c.of-segments.result (c.is.ensures.yes (search rules)) (c.of-segments.ensures ∙ c.new.ensures.items)
 
-pub segments::bits-returns-then-deep-ge255-clause-reads : goal.segments::bits-returns-then-deep-ge255-clause-reads
-segments::bits-returns-then-deep-ge255-clause-reads t c = bits_signed_deep (in_setting c.args.setting c.args.deep c.args.brackets) c.args.source.now c.args.at c.args.place c.in-Some.sign c.in-Some.op c.in-Some.ensures.operator (omega arith)
+pub segments::bits-returns-then-deep-trees-clause-reads : goal.segments::bits-returns-then-deep-trees-clause-reads
+segments::bits-returns-then-deep-trees-clause-reads t c = bits_signed_deep (in_setting c.args.setting c.args.deep c.args.brackets) c.args.source.now c.args.at c.args.place c.in-Some.sign c.in-Some.op c.in-Some.ensures.operator (omega arith)
 
 pub segments::bits-returns-in_err-first-clause-reads : goal.segments::bits-returns-in_err-first-clause-reads
 segments::bits-returns-in_err-first-clause-reads t c = let p = err_from_is_err_and c.from_residual.result c.from_residual.ensures.1 in rw (p.1, p.2) (bits_signed_err (in_setting c.args.setting c.args.deep c.args.brackets) c.args.source.now c.args.at c.args.place c.in-Some.sign c.in-Some.op _ c.in-Some.ensures.operator (omega arith) c.in_err-first.ensures.reads)
@@ -270,8 +270,8 @@ segments::bits-returns-in_err-first-clause-reads t c = let p = err_from_is_err_a
 pub segments::bits-returns-in-Some-clause-reads : goal.segments::bits-returns-in-Some-clause-reads
 segments::bits-returns-in-Some-clause-reads t c = bits_signed_then (in_setting c.args.setting c.args.deep c.args.brackets) c.args.source.now c.args.at c.in_ok-first.next c.args.place c.in-Some.sign c.in-Some.op c.in_ok-first.first c.in_ok-first.height c.more_segments.result c.in-Some.ensures.operator (omega arith) c.in_ok-first.ensures.reads c.more_segments.ensures.reads
 
-pub segments::bits-returns-then-deep-ge256-clause-reads : goal.segments::bits-returns-then-deep-ge256-clause-reads
-segments::bits-returns-then-deep-ge256-clause-reads t c = bits_deep (in_setting c.args.setting c.args.deep c.args.brackets) c.args.source.now c.args.at c.args.place c.simple_cause.result (no_size_mode c.args.setting) (omega arith) (c.is.ensures.no (search rules)) c.in_default.ensures.operator c.simple_cause.ensures
+pub segments::bits-returns-then-deep-trees-2-clause-reads : goal.segments::bits-returns-then-deep-trees-2-clause-reads
+segments::bits-returns-then-deep-trees-2-clause-reads t c = bits_deep (in_setting c.args.setting c.args.deep c.args.brackets) c.args.source.now c.args.at c.args.place c.simple_cause.result (no_size_mode c.args.setting) (omega arith) (c.is.ensures.no (search rules)) c.in_default.ensures.operator c.simple_cause.ensures
 
 pub segments::bits-returns-in_err-value-clause-reads : goal.segments::bits-returns-in_err-value-clause-reads
 segments::bits-returns-in_err-value-clause-reads t c = let p = err_from_is_err_and c.from_residual-in_err-value.result c.from_residual-in_err-value.ensures.1 in rw (p.1, p.2) (bits_value_err (in_setting c.args.setting c.args.deep c.args.brackets) c.args.source.now c.args.at c.args.place _ (omega arith) (c.is.ensures.no (search rules)) c.in_default.ensures.operator c.in_err-value.ensures.reads)
@@ -303,8 +303,8 @@ segments::more_segments-returns-in_err-item-clause-reads t c = let p = err_from_
 pub segments::more_segments-loop-alloc-preserved : goal.segments::more_segments-loop-alloc-preserved
 segments::more_segments-loop-alloc-preserved t c = (omega (arith, c.loop-alloc.invariant.0, c.in_ok-item.ensures.further.0), c.in_ok-item.ensures.further.1, omega (arith, c.loop-alloc.invariant.2, c.higher-highest.ensures), omega (arith, c.in_ok-item.ensures.bounded.1, c.loop-alloc.invariant.3, c.higher-highest.ensures), segments_next (in_setting c.args.setting c.args.deep c.args.brackets) c.args.place c.args.source.now c.args.at c.loop-alloc.next c.in_ok-item.after c.args.first c.args.height c.loop-alloc.segments.items _ c.loop-alloc.highest c.higher-highest.result c.in_ok-item.item c.in_ok-item.tall c.loop-alloc.invariant.4 (c.is-in-loop-alloc.ensures.yes (search rules)) c.in_ok-item.ensures.reads c.in_ok-push.ensures.items c.higher-highest.ensures)
 
-pub segments::segment-returns-then-deep-ge256-clause-reads : goal.segments::segment-returns-then-deep-ge256-clause-reads
-segments::segment-returns-then-deep-ge256-clause-reads t c = segment_deep (in_setting c.args.setting c.args.deep c.args.brackets) c.args.source.now c.args.at c.in-Some.sign c.in-Some.op c.in-Some.ensures.operator (omega arith)
+pub segments::segment-returns-then-deep-trees-clause-reads : goal.segments::segment-returns-then-deep-trees-clause-reads
+segments::segment-returns-then-deep-trees-clause-reads t c = segment_deep (in_setting c.args.setting c.args.deep c.args.brackets) c.args.source.now c.args.at c.in-Some.sign c.in-Some.op c.in-Some.ensures.operator (omega arith)
 
 pub segments::segment-returns-in-Some-clause-reads : goal.segments::segment-returns-in-Some-clause-reads
 segments::segment-returns-in-Some-clause-reads t c = segment_signed (in_setting c.args.setting c.args.deep c.args.brackets) c.args.source.now c.args.at c.in-Some.sign c.in-Some.op c.prefixed.result c.in-Some.ensures.operator c.prefixed.ensures.reads
@@ -488,7 +488,7 @@ pub items::item-returns-in-Err-clause-further : goal.items::item-returns-in-Err-
 items::item-returns-in-Err-clause-further t c = let m = read_further c.args.source.now c.loop-pattern.next c.level-read.result _ c.in_ok-value-in-Err.ensures.kept c.level-read.ensures.further in (omega (arith, c.loop-pattern.invariant.0, m.0), m.1)
 
 pub items::item-returns-in-Err-clause-bounded : goal.items::item-returns-in-Err-clause-bounded
-items::item-returns-in-Err-clause-bounded t c = let m = read_bounded c.args.deep c.level-read.result _ c.in_ok-value-in-Err.ensures.kept c.level-read.ensures.bounded in (omega (arith, c.higher-height-in-Err.ensures, m.0), omega (arith, c.higher-height-in-Err.ensures, m.1, c.loop-pattern.invariant.2))
+items::item-returns-in-Err-clause-bounded t c = let m = read_bounded c.args.source.now.limits c.args.deep c.level-read.result _ c.in_ok-value-in-Err.ensures.kept c.level-read.ensures.bounded in (omega (arith, c.higher-height-in-Err.ensures, m.0), omega (arith, c.higher-height-in-Err.ensures, m.1, c.loop-pattern.invariant.2))
 
 pub quals::qual-returns-in_err-list-in-Ok-clause-reads : goal.quals::qual-returns-in_err-list-in-Ok-clause-reads
 quals::qual-returns-in_err-list-in-Ok-clause-reads t c = let p = err_from_is_err_and c.from_residual.result c.from_residual.ensures.1 in rw (p.1, p.2) (generator_err (in_body c.args.deep c.args.brackets) c.args.source.now c.args.at c.in-Ok.after c.in-Ok.first _ c.in-Ok.ensures.reads c.in_err-list-in-Ok.ensures.reads)
@@ -499,8 +499,8 @@ quals::qual-returns-in-Ok-clause-reads t c = items_ok (in_body c.args.deep c.arg
 pub quals::qual-returns-in_default-clause-reads : goal.quals::qual-returns-in_default-clause-reads
 quals::qual-returns-in_default-clause-reads t c = c.filter.ensures.reads (in_body c.args.deep c.args.brackets) c.in-Err.ensures.reads c.in_default.ensures.opening c.level-read.ensures.reads
 
-pub quals::qual-returns-then-brackets-ge64-clause-reads : goal.quals::qual-returns-then-brackets-ge64-clause-reads
-quals::qual-returns-then-brackets-ge64-clause-reads t c = qual_full_at (in_body c.args.deep c.args.brackets) c.args.source.now c.args.at (opens_at c.args.source.now c.args.at c.in-Some.place c.in-Some.ensures.opening) (omega arith)
+pub quals::qual-returns-then-brackets-clause-reads : goal.quals::qual-returns-then-brackets-clause-reads
+quals::qual-returns-then-brackets-clause-reads t c = qual_full_at (in_body c.args.deep c.args.brackets) c.args.source.now c.args.at (opens_at c.args.source.now c.args.at c.in-Some.place c.in-Some.ensures.opening) (omega arith)
 
 pub quals::qual-returns-in_err-bits-in-Ok-segments-clause-reads : goal.quals::qual-returns-in_err-bits-in-Ok-segments-clause-reads
 quals::qual-returns-in_err-bits-in-Ok-segments-clause-reads t c = let p = err_from_is_err_and c.from_residual-in_err-bits-in-Ok-segments.result c.from_residual-in_err-bits-in-Ok-segments.ensures.1 in rw (p.1, p.2) (bits_err (in_body c.args.deep c.args.brackets) c.args.source.now c.args.at c.in-Ok-segments.after c.in-Ok-segments.read _ (omega arith) (opens_at c.args.source.now c.args.at c.in-Some.place c.in-Some.ensures.opening) c.in-Ok-segments.ensures.reads c.in_err-bits-in-Ok-segments.ensures.reads)

@@ -4,7 +4,7 @@ use Rattle.body_read.proofs.exprs.operator_at.Goals as goal
 use Rattle.body_read.proofs.exprs.operator_at.Goals.{else-level-wanted-via-then-level-wanted+else-may_stand, else-level-wanted-via-else-level-wanted}
 
 pub returns-in_default-clause-operator : goal.returns-in_default-clause-operator
-returns-in_default-clause-operator c = no_operator_at_end c.args.setting c.args.wanted (drop c.args.at c.args.source.now) c.in_default.ensures.token
+returns-in_default-clause-operator c = no_operator_at_end c.args.setting c.args.wanted (drop c.args.at c.args.source.now.words) c.in_default.ensures.token
 
 pub returns-in_default-operator-clause-operator : goal.returns-in_default-operator-clause-operator
 returns-in_default-operator-clause-operator c = no_operator_there c.args.setting c.args.wanted c.args.source.now c.args.at c.in-Some.numbered c.in-Some.ensures.token (λ op e. c.in_default-operator.not-Some op (c.operator.ensures ∙ e))

@@ -8,8 +8,8 @@ use Rattle.pattern_read.proofs.Words.{is_no, is_none}
 use Rattle.pattern_read.proofs.Values.{sign_deep, sign_end, sign_ok}
 use Rattle.pattern_read.proofs.pattern_leaves.signed_value.Goals as goal
 
-pub returns-then-deep-ge256-clause-reads : goal.returns-then-deep-ge256-clause-reads
-returns-then-deep-ge256-clause-reads c = λ x q. sign_deep x c.args.deep c.args.source.now c.args.at c.args.numbered c.args.op q c.requires.stands c.requires.sign c.requires.prefix (omega arith)
+pub returns-then-deep-trees-clause-reads : goal.returns-then-deep-trees-clause-reads
+returns-then-deep-trees-clause-reads c = λ x q. sign_deep x c.args.deep c.args.source.now c.args.at c.args.numbered c.args.op q c.requires.stands c.requires.sign c.requires.prefix (omega arith)
 
 pub returns-in_default-clause-reads : goal.returns-in_default-clause-reads
 returns-in_default-clause-reads c = λ x q. sign_end x c.args.deep c.args.source.now c.args.at c.args.numbered c.args.op q c.requires.stands c.requires.sign c.requires.prefix (omega arith) (is_none c.args.source.now (c.args.at + 1) k.Integer c.in_default.ensures.token)

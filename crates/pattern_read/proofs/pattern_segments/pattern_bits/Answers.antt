@@ -7,8 +7,8 @@ use Rattle.pattern_read.proofs.pattern_segments.pattern_bits.Goals as goal
 pub returns-then-is-clause-reads : goal.returns-then-is-clause-reads
 returns-then-is-clause-reads c = bits_empty (in_size c.args.deep c.args.brackets) c.args.source.now c.args.at c.of.result (c.is.ensures.yes (search rules)) (c.of.ensures ∙ c.new-segments.ensures.items)
 
-pub returns-then-deep-ge256-clause-reads : goal.returns-then-deep-ge256-clause-reads
-returns-then-deep-ge256-clause-reads c = bits_first (in_size c.args.deep c.args.brackets) (drop c.args.at c.args.source.now) c.value_cause.result c.value_cause.ensures (c.is.ensures.no (search rules)) (omega arith)
+pub returns-then-deep-trees-clause-reads : goal.returns-then-deep-trees-clause-reads
+returns-then-deep-trees-clause-reads c = bits_first (in_size c.args.deep c.args.brackets) (drop c.args.at c.args.source.now.words) c.value_cause.result c.value_cause.ensures (c.is.ensures.no (search rules)) (omega arith)
 
 pub loop-segments-init : goal.loop-segments-init
 loop-segments-init c = (omega arith, c.requires.place, omega arith, bits_begin (in_size c.args.deep c.args.brackets) c.args.source.now c.args.at c.new-segments.result.items (omega arith) (c.is.ensures.no (search rules)) c.new-segments.ensures.items)

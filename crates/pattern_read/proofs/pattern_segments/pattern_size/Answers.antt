@@ -13,10 +13,10 @@ pub returns-in-Integer-clause-reads : goal.returns-in-Integer-clause-reads
 returns-in-Integer-clause-reads c = size_integer_ok (in_size c.args.deep c.args.brackets) c.args.source.now c.args.at c.in-Some.numbered _ c.in-Some.ensures.token c.in-Integer.is (to_z-of_z {w = w128} {z = c.integer-value.result} (record { sfits = c.integer-value.type_inv }) ∙ c.integer-value.ensures)
 
 pub returns-in_ok-name-in-Variable-clause-reads : goal.returns-in_ok-name-in-Variable-clause-reads
-returns-in_ok-name-in-Variable-clause-reads c = size_variable_ok (in_size c.args.deep c.args.brackets) c.args.source.now c.args.at c.in-Some.numbered c.in_ok-name-in-Variable.name c.in-Some.ensures.token c.in-Variable.is (c.in_ok-name-in-Variable.ensures c.in-Some.ensures.token.word (drop (c.args.at + 1) c.args.source.now) c.in-Some.ensures.token.is (c.in-Some.ensures.token.kind ∙ c.in-Variable.is))
+returns-in_ok-name-in-Variable-clause-reads c = size_variable_ok (in_size c.args.deep c.args.brackets) c.args.source.now c.args.at c.in-Some.numbered c.in_ok-name-in-Variable.name c.in-Some.ensures.token c.in-Variable.is (c.in_ok-name-in-Variable.ensures c.in-Some.ensures.token.word (drop (c.args.at + 1) c.args.source.now.words) c.in-Some.ensures.token.is (c.in-Some.ensures.token.kind ∙ c.in-Variable.is))
 
-pub returns-then-brackets-ge64-clause-reads : goal.returns-then-brackets-ge64-clause-reads
-returns-then-brackets-ge64-clause-reads c = size_paren_deep (in_size c.args.deep c.args.brackets) c.args.source.now c.args.at c.in-Some.numbered c.in-Some.ensures.token c.in-LeftParen.is (omega arith)
+pub returns-then-brackets-clause-reads : goal.returns-then-brackets-clause-reads
+returns-then-brackets-clause-reads c = size_paren_deep (in_size c.args.deep c.args.brackets) c.args.source.now c.args.at c.in-Some.numbered c.in-Some.ensures.token c.in-LeftParen.is (omega arith)
 
 pub returns-in_err-inner-in-LeftParen-clause-reads : goal.returns-in_err-inner-in-LeftParen-clause-reads
 returns-in_err-inner-in-LeftParen-clause-reads c = let p = err_from_is_err_and c.from_residual-in_err-inner-in-LeftParen.result c.from_residual-in_err-inner-in-LeftParen.ensures.1 in rw (p.1, p.2) (size_paren_err (in_size c.args.deep c.args.brackets) c.args.source.now c.args.at c.in-Some.numbered _ c.in-Some.ensures.token c.in-LeftParen.is (omega arith) c.in_err-inner-in-LeftParen.ensures.reads)

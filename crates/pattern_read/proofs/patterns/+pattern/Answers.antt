@@ -12,8 +12,8 @@ pat-returns-in_default-clause-reads t c = pat_end (in_size c.args.deep c.args.br
 pub pat-returns-then-not-opens_pattern-clause-reads : goal.pat-returns-then-not-opens_pattern-clause-reads
 pat-returns-then-not-opens_pattern-clause-reads t c = c.leaf.ensures.reads (in_size c.args.deep c.args.brackets)
 
-pub pat-returns-then-brackets-ge64-clause-reads : goal.pat-returns-then-brackets-ge64-clause-reads
-pat-returns-then-brackets-ge64-clause-reads t c = bracket_deep (in_size c.args.deep c.args.brackets) c.args.source.now c.args.at c.in-Some.numbered c.in-Some.ensures.token (sym c.opens_pattern.ensures ∙ c.if-not-opens_pattern.false) (omega arith)
+pub pat-returns-then-brackets-clause-reads : goal.pat-returns-then-brackets-clause-reads
+pat-returns-then-brackets-clause-reads t c = bracket_deep (in_size c.args.deep c.args.brackets) c.args.source.now c.args.at c.in-Some.numbered c.in-Some.ensures.token (sym c.opens_pattern.ensures ∙ c.if-not-opens_pattern.false) (omega arith)
 
 pub pat-returns-in_err-inner-in-LeftParen-clause-reads : goal.pat-returns-in_err-inner-in-LeftParen-clause-reads
 pat-returns-in_err-inner-in-LeftParen-clause-reads t c = let p = err_from_is_err_and c.from_residual.result c.from_residual.ensures.1 in rw (p.1, p.2) (paren_err (in_size c.args.deep c.args.brackets) c.args.source.now c.args.at c.in-Some.numbered _ c.in-Some.ensures.token c.in-LeftParen.is (omega arith) c.in_err-inner-in-LeftParen.ensures.reads)
@@ -54,8 +54,8 @@ pattern-returns-clause-reads t c = pattern_whole (in_size c.args.deep c.args.bra
 pub same-returns-then-not-is-clause-reads : goal.same-returns-then-not-is-clause-reads
 same-returns-then-not-is-clause-reads t c = same_none (in_size c.args.deep c.args.brackets) c.args.source.now c.args.at c.args.first (c.is.ensures.no (search rules))
 
-pub same-returns-then-deep-first-gt256-clause-reads : goal.same-returns-then-deep-first-gt256-clause-reads
-same-returns-then-deep-first-gt256-clause-reads t c = same_deep (in_size c.args.deep c.args.brackets) c.args.source.now c.args.at c.args.first (c.is.ensures.yes (search rules)) (omega arith)
+pub same-returns-then-deep-first-clause-reads : goal.same-returns-then-deep-first-clause-reads
+same-returns-then-deep-first-clause-reads t c = same_deep (in_size c.args.deep c.args.brackets) c.args.source.now c.args.at c.args.first (c.is.ensures.yes (search rules)) (omega arith)
 
 pub same-loop-patterns-init : goal.same-loop-patterns-init
 same-loop-patterns-init t c = (omega arith, omega (arith, c.is.ensures.within (search rules)), omega arith, same_begin (in_size c.args.deep c.args.brackets) c.args.first c.args.source.now c.args.at c.in_ok-patterns.patterns.items (c.is.ensures.yes (search rules)) (omega arith) c.in_ok-patterns.ensures.items, refl)
@@ -72,8 +72,8 @@ same-loop-patterns-preserved t c = (omega (arith, c.loop-patterns.invariant.0, c
 pub patterns-returns-then-is-clause-reads : goal.patterns-returns-then-is-clause-reads
 patterns-returns-then-is-clause-reads t c = patterns_empty c.args.close (in_size c.args.deep c.args.brackets) c.args.source.now c.args.at c.of.result c.requires.closes (c.is.ensures.yes (search rules)) (c.of.ensures ∙ c.new-items.ensures.items)
 
-pub patterns-returns-then-deep-gt256-clause-reads : goal.patterns-returns-then-deep-gt256-clause-reads
-patterns-returns-then-deep-gt256-clause-reads t c = patterns_first c.args.close (in_size c.args.deep c.args.brackets) (drop c.args.at c.args.source.now) c.pattern_cause.result c.pattern_cause.ensures (c.is.ensures.no (search rules)) (omega arith)
+pub patterns-returns-then-deep-trees-clause-reads : goal.patterns-returns-then-deep-trees-clause-reads
+patterns-returns-then-deep-trees-clause-reads t c = patterns_first c.args.close (in_size c.args.deep c.args.brackets) (drop c.args.at c.args.source.now.words) c.pattern_cause.result c.pattern_cause.ensures (c.is.ensures.no (search rules)) (omega arith)
 
 pub patterns-loop-items-init : goal.patterns-loop-items-init
 patterns-loop-items-init t c = (omega arith, c.requires.place, omega arith, patterns_begin c.args.close (in_size c.args.deep c.args.brackets) c.args.source.now c.args.at c.new-items.result.items (omega arith) (c.is.ensures.no (search rules)) c.new-items.ensures.items)
@@ -93,8 +93,8 @@ patterns-loop-items-preserved t c = (omega (arith, c.loop-items.invariant.0, c.i
 pub pattern_list-returns-then-is-clause-reads : goal.pattern_list-returns-then-is-clause-reads
 pattern_list-returns-then-is-clause-reads t c = list_empty (in_size c.args.deep c.args.brackets) c.args.source.now c.args.at c.of.result c.of-tail.result (c.is.ensures.yes (search rules)) (c.of.ensures ∙ c.new-items.ensures.items) (c.of-tail.ensures ∙ c.new.ensures.items)
 
-pub pattern_list-returns-then-deep-gt256-clause-reads : goal.pattern_list-returns-then-deep-gt256-clause-reads
-pattern_list-returns-then-deep-gt256-clause-reads t c = list_first (in_size c.args.deep c.args.brackets) (drop c.args.at c.args.source.now) c.pattern_cause.result c.pattern_cause.ensures (c.is.ensures.no (search rules)) (omega arith)
+pub pattern_list-returns-then-deep-trees-clause-reads : goal.pattern_list-returns-then-deep-trees-clause-reads
+pattern_list-returns-then-deep-trees-clause-reads t c = list_first (in_size c.args.deep c.args.brackets) (drop c.args.at c.args.source.now.words) c.pattern_cause.result c.pattern_cause.ensures (c.is.ensures.no (search rules)) (omega arith)
 
 pub pattern_list-loop-items-init : goal.pattern_list-loop-items-init
 pattern_list-loop-items-init t c = (omega arith, c.requires.place, omega arith, list_begin (in_size c.args.deep c.args.brackets) c.args.source.now c.args.at c.new-items.result.items (omega arith) (c.is.ensures.no (search rules)) c.new-items.ensures.items)

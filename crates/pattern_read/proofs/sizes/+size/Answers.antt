@@ -9,8 +9,8 @@ use Rattle.pattern_read.proofs.sizes.+size.Goals as goal
 pub size_after_atom-returns-then-not-is-clause-reads : goal.size_after_atom-returns-then-not-is-clause-reads
 size_after_atom-returns-then-not-is-clause-reads t c = atom_alone (in_size c.args.deep c.args.brackets) c.args.source.now c.args.at c.args.place c.args.name c.size_qualified.result (c.is.ensures.no (search rules)) c.size_qualified.ensures.reads
 
-pub size_after_atom-returns-then-brackets-ge64-clause-reads : goal.size_after_atom-returns-then-brackets-ge64-clause-reads
-size_after_atom-returns-then-brackets-ge64-clause-reads t c = atom_deep (in_size c.args.deep c.args.brackets) c.args.source.now c.args.at c.args.place c.args.name (c.is.ensures.yes (search rules)) (omega arith)
+pub size_after_atom-returns-then-brackets-clause-reads : goal.size_after_atom-returns-then-brackets-clause-reads
+size_after_atom-returns-then-brackets-clause-reads t c = atom_deep (in_size c.args.deep c.args.brackets) c.args.source.now c.args.at c.args.place c.args.name (c.is.ensures.yes (search rules)) (omega arith)
 
 pub size_after_atom-returns-in_err-args-clause-reads : goal.size_after_atom-returns-in_err-args-clause-reads
 size_after_atom-returns-in_err-args-clause-reads t c = let p = err_from_is_err_and c.from_residual.result c.from_residual.ensures.1 in rw (p.1, p.2) (atom_err (in_size c.args.deep c.args.brackets) c.args.source.now c.args.at c.args.place c.args.name _ (c.is.ensures.yes (search rules)) (omega arith) c.in_err-args.ensures.reads)
@@ -21,8 +21,8 @@ size_after_atom-returns-clause-reads t c = atom_call (in_size c.args.deep c.args
 pub size_exprs-returns-then-is-clause-reads : goal.size_exprs-returns-then-is-clause-reads
 size_exprs-returns-then-is-clause-reads t c = exprs_empty c.args.close (in_size c.args.deep c.args.brackets) c.args.source.now c.args.at c.of.result c.requires.closes (c.is.ensures.yes (search rules)) (c.of.ensures ∙ c.new-items.ensures.items)
 
-pub size_exprs-returns-then-deep-gt256-clause-reads : goal.size_exprs-returns-then-deep-gt256-clause-reads
-size_exprs-returns-then-deep-gt256-clause-reads t c = exprs_first c.args.close (in_size c.args.deep c.args.brackets) (drop c.args.at c.args.source.now) c.first_cause.result refl c.first_cause.ensures (c.is.ensures.no (search rules)) (omega arith)
+pub size_exprs-returns-then-deep-trees-clause-reads : goal.size_exprs-returns-then-deep-trees-clause-reads
+size_exprs-returns-then-deep-trees-clause-reads t c = exprs_first c.args.close (in_size c.args.deep c.args.brackets) (drop c.args.at c.args.source.now.words) c.first_cause.result refl c.first_cause.ensures (c.is.ensures.no (search rules)) (omega arith)
 
 pub size_exprs-loop-items-init : goal.size_exprs-loop-items-init
 size_exprs-loop-items-init t c = (omega arith, c.requires.place, omega arith, exprs_begin c.args.close (in_size c.args.deep c.args.brackets) c.args.source.now c.args.at c.new-items.result.items (omega arith) (c.is.ensures.no (search rules)) c.new-items.ensures.items)
@@ -54,8 +54,8 @@ size_level-returns-clause-reads t c = level_whole (in_size c.args.deep c.args.br
 pub size_operand-returns-in_default-clause-reads : goal.size_operand-returns-in_default-clause-reads
 size_operand-returns-in_default-clause-reads t c = operand_end (in_size c.args.deep c.args.brackets) c.args.source.now c.args.at refl c.in_default.ensures.token
 
-pub size_operand-returns-then-deep-ge256-clause-reads : goal.size_operand-returns-then-deep-ge256-clause-reads
-size_operand-returns-then-deep-ge256-clause-reads t c = operand_prefix_deep (in_size c.args.deep c.args.brackets) c.args.source.now c.args.at c.in-Some.numbered c.in-Some-prefix.op c.in-Some.ensures.token (sym c.prefix.ensures ∙ c.in-Some-prefix.is) (omega arith)
+pub size_operand-returns-then-deep-trees-clause-reads : goal.size_operand-returns-then-deep-trees-clause-reads
+size_operand-returns-then-deep-trees-clause-reads t c = operand_prefix_deep (in_size c.args.deep c.args.brackets) c.args.source.now c.args.at c.in-Some.numbered c.in-Some-prefix.op c.in-Some.ensures.token (sym c.prefix.ensures ∙ c.in-Some-prefix.is) (omega arith)
 
 pub size_operand-returns-in_err-part-clause-reads : goal.size_operand-returns-in_err-part-clause-reads
 size_operand-returns-in_err-part-clause-reads t c = let p = err_from_is_err_and c.from_residual.result c.from_residual.ensures.1 in rw (p.1, p.2) (operand_prefix_err (in_size c.args.deep c.args.brackets) c.args.source.now c.args.at c.in-Some.numbered c.in-Some-prefix.op _ c.in-Some.ensures.token (sym c.prefix.ensures ∙ c.in-Some-prefix.is) (omega arith) c.in_err-part.ensures.reads)
@@ -72,8 +72,8 @@ size_operand-returns-then-not-is_module-clause-reads t c = operand_no_module (in
 pub size_operand-returns-in_err-tree-in-Question-clause-reads : goal.size_operand-returns-in_err-tree-in-Question-clause-reads
 size_operand-returns-in_err-tree-in-Question-clause-reads t c = let p = err_from_is_err_and c.from_residual-in_err-tree-in-Question.result c.from_residual-in_err-tree-in-Question.ensures.1 in rw (p.1, p.2) (operand_macro_err (in_size c.args.deep c.args.brackets) c.args.source.now c.args.at c.in-Some.numbered _ c.in-Some.ensures.token c.in-Question.is (c.is_module.ensures.yes (search rules)) c.in_err-tree-in-Question.ensures.reads)
 
-pub size_operand-returns-then-brackets-ge64-clause-reads : goal.size_operand-returns-then-brackets-ge64-clause-reads
-size_operand-returns-then-brackets-ge64-clause-reads t c = operand_paren_deep (in_size c.args.deep c.args.brackets) c.args.source.now c.args.at c.in-Some.numbered c.in-Some.ensures.token c.in-LeftParen.is (omega arith)
+pub size_operand-returns-then-brackets-clause-reads : goal.size_operand-returns-then-brackets-clause-reads
+size_operand-returns-then-brackets-clause-reads t c = operand_paren_deep (in_size c.args.deep c.args.brackets) c.args.source.now c.args.at c.in-Some.numbered c.in-Some.ensures.token c.in-LeftParen.is (omega arith)
 
 pub size_operand-returns-in_err-inner-in-LeftParen-clause-reads : goal.size_operand-returns-in_err-inner-in-LeftParen-clause-reads
 size_operand-returns-in_err-inner-in-LeftParen-clause-reads t c = let p = err_from_is_err_and c.from_residual-in_err-inner-in-LeftParen.result c.from_residual-in_err-inner-in-LeftParen.ensures.1 in rw (p.1, p.2) (operand_paren_err (in_size c.args.deep c.args.brackets) c.args.source.now c.args.at c.in-Some.numbered _ c.in-Some.ensures.token c.in-LeftParen.is (omega arith) c.in_err-inner-in-LeftParen.ensures.reads)
@@ -82,7 +82,7 @@ pub size_operand-returns-in_err-next-in-LeftParen-clause-reads : goal.size_opera
 size_operand-returns-in_err-next-in-LeftParen-clause-reads t c = let p = err_from_is_err_and c.from_residual-in_err-next-in-LeftParen.result c.from_residual-in_err-next-in-LeftParen.ensures.1 in rw (p.1, p.2) (operand_close_err (in_size c.args.deep c.args.brackets) c.args.source.now c.args.at c.in_ok-inner-in-LeftParen.after c.in-Some.numbered c.in_ok-inner-in-LeftParen.inner _ c.in-Some.ensures.token c.in-LeftParen.is (omega arith) c.in_ok-inner-in-LeftParen.ensures.reads c.in_err-next-in-LeftParen.ensures.reads)
 
 pub size_operand-returns-in_ok-name-in-Variable-clause-reads : goal.size_operand-returns-in_ok-name-in-Variable-clause-reads
-size_operand-returns-in_ok-name-in-Variable-clause-reads t c = operand_variable (in_size c.args.deep c.args.brackets) c.args.source.now c.args.at c.in-Some.numbered c.in_ok-name-in-Variable.name c.in-Some.ensures.token c.in-Variable.is (c.in_ok-name-in-Variable.ensures c.in-Some.ensures.token.word (drop (c.args.at + 1) c.args.source.now) c.in-Some.ensures.token.is (c.in-Some.ensures.token.kind ∙ c.in-Variable.is))
+size_operand-returns-in_ok-name-in-Variable-clause-reads t c = operand_variable (in_size c.args.deep c.args.brackets) c.args.source.now c.args.at c.in-Some.numbered c.in_ok-name-in-Variable.name c.in-Some.ensures.token c.in-Variable.is (c.in_ok-name-in-Variable.ensures c.in-Some.ensures.token.word (drop (c.args.at + 1) c.args.source.now.words) c.in-Some.ensures.token.is (c.in-Some.ensures.token.kind ∙ c.in-Variable.is))
 
 pub size_operand-returns-in-Integer-clause-reads : goal.size_operand-returns-in-Integer-clause-reads
 size_operand-returns-in-Integer-clause-reads t c = operand_integer (in_size c.args.deep c.args.brackets) c.args.source.now c.args.at c.in-Some.numbered _ c.in-Some.ensures.token c.in-Integer.is (to_z-of_z {w = w128} {z = c.integer-value.result} (record { sfits = c.integer-value.type_inv }) ∙ c.integer-value.ensures)
@@ -105,11 +105,11 @@ size_operand-returns-in_default-kind t c = record { reads = operand_none (in_siz
 pub size_qualified-returns-then-not-is-clause-reads : goal.size_qualified-returns-then-not-is-clause-reads
 size_qualified-returns-then-not-is-clause-reads t c = qualified_alone (in_size c.args.deep c.args.brackets) c.args.source.now c.args.at c.args.place c.args.qualifier (c.is.ensures.no (search rules))
 
-pub size_qualified-returns-then-deep-ge256-clause-reads : goal.size_qualified-returns-then-deep-ge256-clause-reads
-size_qualified-returns-then-deep-ge256-clause-reads t c = qualified_deep (in_size c.args.deep c.args.brackets) c.args.source.now c.args.at c.args.place c.args.qualifier (c.is.ensures.yes (search rules)) (inr (omega arith))
+pub size_qualified-returns-then-deep-trees-clause-reads : goal.size_qualified-returns-then-deep-trees-clause-reads
+size_qualified-returns-then-deep-trees-clause-reads t c = qualified_deep (in_size c.args.deep c.args.brackets) c.args.source.now c.args.at c.args.place c.args.qualifier (c.is.ensures.yes (search rules)) (inr (omega arith))
 
-pub size_qualified-returns-then-brackets-ge64-clause-reads : goal.size_qualified-returns-then-brackets-ge64-clause-reads
-size_qualified-returns-then-brackets-ge64-clause-reads t c = qualified_deep (in_size c.args.deep c.args.brackets) c.args.source.now c.args.at c.args.place c.args.qualifier (c.is.ensures.yes (search rules)) (inl (omega arith))
+pub size_qualified-returns-then-brackets-clause-reads : goal.size_qualified-returns-then-brackets-clause-reads
+size_qualified-returns-then-brackets-clause-reads t c = qualified_deep (in_size c.args.deep c.args.brackets) c.args.source.now c.args.at c.args.place c.args.qualifier (c.is.ensures.yes (search rules)) (inl (omega arith))
 
 pub size_qualified-returns-in_default-clause-reads : goal.size_qualified-returns-in_default-clause-reads
 size_qualified-returns-in_default-clause-reads t c = qualified_no_name (in_size c.args.deep c.args.brackets) c.args.source.now c.args.at c.args.place c.args.qualifier (c.is.ensures.yes (search rules)) (omega arith) (omega arith) c.in_default.ensures.atom
@@ -126,8 +126,8 @@ size_qualified-returns-clause-reads t c = qualified_ok (in_size c.args.deep c.ar
 pub size_tail-returns-in_default-clause-reads : goal.size_tail-returns-in_default-clause-reads
 size_tail-returns-in_default-clause-reads t c = tail_none (in_size c.args.deep c.args.brackets) c.args.wanted c.args.source.now c.args.at c.args.left refl c.in_default.ensures.operator
 
-pub size_tail-returns-then-deep-left-gt256-clause-reads : goal.size_tail-returns-then-deep-left-gt256-clause-reads
-size_tail-returns-then-deep-left-gt256-clause-reads t c = tail_deep (in_size c.args.deep c.args.brackets) c.args.wanted c.args.source.now c.args.at c.args.left c.in-Some.op c.in-Some.ensures.operator (omega arith)
+pub size_tail-returns-then-deep-left-clause-reads : goal.size_tail-returns-then-deep-left-clause-reads
+size_tail-returns-then-deep-left-clause-reads t c = tail_deep (in_size c.args.deep c.args.brackets) c.args.wanted c.args.source.now c.args.at c.args.left c.in-Some.op c.in-Some.ensures.operator (omega arith)
 
 pub size_tail-returns-in_err-right-clause-reads : goal.size_tail-returns-in_err-right-clause-reads
 size_tail-returns-in_err-right-clause-reads t c = let p = err_from_is_err_and c.from_residual.result c.from_residual.ensures.1 in rw (p.1, p.2) (tail_err (in_size c.args.deep c.args.brackets) c.args.wanted c.right_of.result c.args.source.now c.args.at c.args.left c.in-Some.op _ c.in-Some.ensures.operator c.right_of.ensures.level (omega arith) c.in_err-right.ensures.reads)
@@ -139,4 +139,4 @@ pub size_tail-returns-clause-reads : goal.size_tail-returns-clause-reads
 size_tail-returns-clause-reads t c = tail_left_ok (in_size c.args.deep c.args.brackets) c.args.wanted c.right_of.result c.args.source.now c.args.at c.in_ok-right.next c.args.left c.in_ok-right.right c.in_ok-joined.joined c.in-Some.op c.size_tail.result c.in-Some.ensures.operator (omega arith) c.right_of.ensures.level (omega arith) c.in_ok-joined.ensures.joined c.in_ok-right.ensures.reads c.size_tail.ensures.reads
 
 pub size_tail-size_level-requires : goal.size_tail-size_level-requires
-size_tail-size_level-requires t c = let w : c.args.at < length c.args.source.now = c.in-Some.ensures.within in let l : c.right_of.result ≤ 6 = c.right_of.ensures.low in (omega (arith, c.decreases), (omega arith, (omega arith, (c.requires.bracket, l))))
+size_tail-size_level-requires t c = let w : c.args.at < length c.args.source.now.words = c.in-Some.ensures.within in let l : c.right_of.result ≤ 6 = c.right_of.ensures.low in (omega (arith, c.decreases), (omega arith, (omega arith, (c.requires.bracket, l))))

@@ -6,7 +6,7 @@ use Rattle.pattern_read.proofs.sizes.size_operator.Goals as goal
 use Rattle.pattern_read.proofs.sizes.size_operator.Goals.{else-level-wanted-via-then-level-wanted+else-ne, else-level-wanted-via-else-level-wanted}
 
 pub returns-in_default-clause-operator : goal.returns-in_default-clause-operator
-returns-in_default-clause-operator c = operator_end c.args.wanted (drop c.args.at c.args.source.now) c.in_default.ensures.token
+returns-in_default-clause-operator c = operator_end c.args.wanted (drop c.args.at c.args.source.now.words) c.in_default.ensures.token
 
 pub returns-in_default-operator-clause-operator : goal.returns-in_default-operator-clause-operator
 returns-in_default-operator-clause-operator c = operator_none c.args.wanted c.args.source.now c.args.at c.in-Some.numbered c.in-Some.ensures.token (λ op e. c.in_default-operator.not-Some op (c.operator.ensures ∙ e))

@@ -3,7 +3,7 @@ use Rattle.pattern_read.proofs.Depths.{cause_none, cause_deep, cause_other}
 use Rattle.pattern_read.proofs.source.first_cause.Goals as goal
 
 pub returns-in_default : goal.returns-in_default
-returns-in_default c = cause_none (drop c.args.at c.args.source.now) c.in_default.ensures.token
+returns-in_default c = cause_none (drop c.args.at c.args.source.now.words) c.in_default.ensures.token
 
 pub returns-then-begins_size : goal.returns-then-begins_size
 returns-then-begins_size c = cause_deep c.args.source.now c.args.at c.in-Some.numbered c.in-Some.ensures.token (search rules)

@@ -6,4 +6,4 @@ pub returns-then-is-clause-reads : goal.returns-then-is-clause-reads
 returns-then-is-clause-reads c = mark_passes c.args.source.now c.args.at c.args.kind (c.is.ensures.yes (search rules))
 
 pub returns-else-is-clause-reads : goal.returns-else-is-clause-reads
-returns-else-is-clause-reads c = mark_refused c.args.kind (drop c.args.at c.args.source.now) (c.is.ensures.no (search rules))
+returns-else-is-clause-reads c = mark_refused c.args.kind (drop c.args.at c.args.source.now.words) (c.is.ensures.no (search rules))
