@@ -22,7 +22,7 @@ use Rattle.bits_top.specs.Runs.{HasRun, end_of}
 use Rattle.bits_top.specs.Texts.{order_text, processes_text, machine_text}
 use Rattle.bits_top.specs.Value.{value_text, VInt}
 use Rattle.bits_top.specs.declared.command.Run.{Run}
-use Rattle.bits_top.specs.declared.form.Straight.{Straight}
+use Rattle.first_form.specs.declared.form.Straight.{Straight}
 use Rattle.bits_top.specs.declared.run.Outcome.{Outcome}
 use Rattle.bits_top.specs.declared.status.Status.{Status}
 use Rattle.bits_top.specs.declared.status.Status.TheVariants.{Done, Refused, Usage, ReadFault, ReportFault, OrderFault, NoMemory, BadOrder}

@@ -5,11 +5,11 @@ use Rattle.std.specs.List.{flat_map}
 use Rattle.std.proofs.lemmas.List.Elements.{All-head, All-tail, All-nil, All-cons, All-append, All-weaker}
 use Rattle.bits_top.specs.Form.{separated, field_text, part_text, item_text, IsField, IsPart, IsName, IsForm, bound_by}
 use Rattle.bits_top.specs.Reading.{IsFramed, IsDisplay, AreSides, SpellsFields, SpellsParts, SpellsItem, SpellsItems}
-use Rattle.bits_top.specs.declared.form.Field.{Field}
-use Rattle.bits_top.specs.declared.form.Part.{Part}
-use Rattle.bits_top.specs.declared.form.Item.{Item}
-use Rattle.bits_top.specs.declared.form.Item.TheVariants.{Match, Display}
-use Rattle.bits_top.specs.declared.form.Straight.{Straight}
+use Rattle.first_form.specs.declared.form.Field.{Field}
+use Rattle.first_form.specs.declared.form.Part.{Part}
+use Rattle.first_form.specs.declared.form.Item.{Item}
+use Rattle.first_form.specs.declared.form.Item.TheVariants.{Match, Display}
+use Rattle.first_form.specs.declared.form.Straight.{Straight}
 use Rattle.bits_top.proofs.Spelling.{cut_once, append_cancel, field_lacks, part_lacks, digit_not_above, fields_once, parts_once}
 
 flat_lacks : {A : Type 0} (c : ℕ) (f : A → List ℕ) (xs : List A) → 44 ≢ c → All (λ x. All (λ b. b ≢ c) (f x)) xs → All (λ b. b ≢ c) (flat_map (λ next. codes "," ++ next) (map f xs))

@@ -14,11 +14,11 @@ use Rattle.bits_top.specs.Runs.{Runs, Stands, Binds, Advances, Finishes, HasRun,
 use Rattle.bits_top.proofs.Goes.{asks_resting, asks_first}
 use Rattle.bits_top.specs.declared.entry.Entry.{Entry}
 use Rattle.bits_top.specs.declared.entry.Entry.TheVariants.{Shown, Ended, Gone}
-use Rattle.bits_top.specs.declared.form.Item.{Item}
-use Rattle.bits_top.specs.declared.form.Item.TheVariants.{Match, Display}
-use Rattle.bits_top.specs.declared.form.Field.{Field}
-use Rattle.bits_top.specs.declared.form.Part.{Part}
-use Rattle.bits_top.specs.declared.form.Straight.{Straight}
+use Rattle.first_form.specs.declared.form.Item.{Item}
+use Rattle.first_form.specs.declared.form.Item.TheVariants.{Match, Display}
+use Rattle.first_form.specs.declared.form.Field.{Field}
+use Rattle.first_form.specs.declared.form.Part.{Part}
+use Rattle.first_form.specs.declared.form.Straight.{Straight}
 use Rattle.bits_top.specs.declared.matching.Binding.{Binding}
 use Rattle.bits_top.specs.declared.run.Ending.{Ending}
 use Rattle.bits_top.specs.declared.run.Ending.TheVariants as ending

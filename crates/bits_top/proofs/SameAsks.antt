@@ -18,10 +18,10 @@ use Rattle.bits_top.specs.Form.{IsMatch, AreItems}
 use Rattle.bits_top.specs.Runs.{IsShort, fields_bits, bounds, known}
 use Rattle.bits_top.specs.Whole.{number_of, lines}
 use Rattle.bits_top.proofs.SameMatch.{built_length, decoded, numbered, Below, own_taken}
-use Rattle.bits_top.specs.declared.form.Field.{Field}
-use Rattle.bits_top.specs.declared.form.Part.{Part}
-use Rattle.bits_top.specs.declared.form.Item.{Item}
-use Rattle.bits_top.specs.declared.form.Item.TheVariants.{Match, Display}
+use Rattle.first_form.specs.declared.form.Field.{Field}
+use Rattle.first_form.specs.declared.form.Part.{Part}
+use Rattle.first_form.specs.declared.form.Item.{Item}
+use Rattle.first_form.specs.declared.form.Item.TheVariants.{Match, Display}
 use Rattle.bits_top.specs.declared.matching.Binding.{Binding}
 
 -- what is due next before items: the end, the end for want of reductions, or a display with what comes after it

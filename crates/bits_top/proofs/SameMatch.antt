@@ -29,8 +29,8 @@ use Rattle.bits_top.specs.Form.{part_size, IsField}
 use Rattle.bits_top.specs.Runs.{parts_bits, fields_bits, bounds}
 use Rattle.bits_top.specs.Whole.{field_pieces, size_read, part_piece}
 use Rattle.bits_top.proofs.Binding.{narrow_some, targets}
-use Rattle.bits_top.specs.declared.form.Field.{Field}
-use Rattle.bits_top.specs.declared.form.Part.{Part}
+use Rattle.first_form.specs.declared.form.Field.{Field}
+use Rattle.first_form.specs.declared.form.Part.{Part}
 use Rattle.bits_top.specs.declared.matching.Binding.{Binding}
 
 le_true : (m n : ℕ) → m ≤ n → nat_le m n ≡ true

@@ -34,7 +34,7 @@ use Rattle.bits_top.specs.declared.entry.Entry as own_entry
 use Rattle.bits_top.specs.declared.entry.Entry.TheVariants.{Sent, Saw, Shown, Started, Full, Ended, Stopped, Gone}
 use Rattle.bits_top.specs.declared.run.Ending.{Ending}
 use Rattle.bits_top.specs.declared.run.Ending.TheVariants.{Normal, Exhausted}
-use Rattle.bits_top.specs.declared.form.Straight.{Straight}
+use Rattle.first_form.specs.declared.form.Straight.{Straight}
 
 abbrev pub whole_entry : own_entry.Entry → Entry
 whole_entry (Sent from to) = e.Sent from to

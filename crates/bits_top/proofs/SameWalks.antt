@@ -19,11 +19,11 @@ use Rattle.bits_top.specs.Whole.{field_pieces, part_piece, lines, module_of_stra
 use Rattle.bits_top.proofs.SamePut.{put_put}
 use Rattle.bits_top.proofs.SameMatch.{part_values, part_trees, values_put, prim_parts, decoded, numbered, fields_taken, fields_put}
 use Rattle.bits_top.proofs.SameAsks.{value_of, due_display, due, standing, open_body, resting, whole_of, known_more, known_length, numbered_more, all_below, found, even_bits}
-use Rattle.bits_top.specs.declared.form.Field.{Field}
-use Rattle.bits_top.specs.declared.form.Part.{Part}
-use Rattle.bits_top.specs.declared.form.Item.{Item}
-use Rattle.bits_top.specs.declared.form.Item.TheVariants as item
-use Rattle.bits_top.specs.declared.form.Straight.{Straight}
+use Rattle.first_form.specs.declared.form.Field.{Field}
+use Rattle.first_form.specs.declared.form.Part.{Part}
+use Rattle.first_form.specs.declared.form.Item.{Item}
+use Rattle.first_form.specs.declared.form.Item.TheVariants as item
+use Rattle.first_form.specs.declared.form.Straight.{Straight}
 use Rattle.bits_top.specs.declared.matching.Binding.{Binding}
 
 -- one contraction in a walk

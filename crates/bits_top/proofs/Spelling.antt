@@ -12,8 +12,8 @@ use lib.Pointwise.{pointwise, bytes_decides}
 use mathlib.Core.Bool.{not}
 use Rattle.bits_top.specs.Form.{separated, field_text, part_text, size_text, part_size, IsField, IsPart, IsSize}
 use Rattle.bits_top.specs.Reading.{IsCut, IsFramed, AreSides, IsNumber, SpellsPart, SpellsFields, SpellsParts}
-use Rattle.bits_top.specs.declared.form.Field.{Field}
-use Rattle.bits_top.specs.declared.form.Part.{Part}
+use Rattle.first_form.specs.declared.form.Field.{Field}
+use Rattle.first_form.specs.declared.form.Part.{Part}
 
 -- two cuts at the same byte, the first of its kind, are one
 pub cut_once : (c : ℕ) (a b r s : List ℕ) → All (λ x. x ≢ c) a → All (λ x. x ≢ c) b → a ++ c ∷ r ≡ b ++ c ∷ s → (a ≡ b) × (r ≡ s)

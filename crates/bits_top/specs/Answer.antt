@@ -11,7 +11,7 @@ use Rattle.bits_top.specs.Runs.{start}
 use Rattle.bits_top.specs.Texts as texts
 use Rattle.bits_top.specs.Whole.{IsRunOf, module_of_straight}
 use Rattle.bits_top.specs.declared.entry.Entry.{Entry}
-use Rattle.bits_top.specs.declared.form.Straight.{Straight}
+use Rattle.first_form.specs.declared.form.Straight.{Straight}
 use Rattle.bits_top.specs.declared.status.Status.{Status}
 use Rattle.bits_top.specs.declared.status.Status.TheVariants.{Done, Refused, Usage, ReadFault, ReportFault, OrderFault, NoMemory, BadOrder}
 

@@ -1,12 +1,13 @@
--- The form of the modules that can be run today, and their texts (this project's own part of the Erlang Reference
--- Manual's "Modules", "Bit Syntax Expressions" and "Expressions").
-use Rattle.std.specs.Prelude.{◌≡◌, ℕ, ◌≤◌, ◌<◌, List, [], ◌∷◌, ◌++◌, length, map, codes, decimal, All, Contains, sum_by, Option, Some, None}
+-- The texts of the modules that can be run today (this project's own part of the Erlang Reference Manual's "Modules", "Bit
+-- Syntax Expressions" and "Expressions").
+use Rattle.std.specs.Prelude.{◌≡◌, ℕ, List, [], ◌∷◌, ◌++◌, map, codes, decimal, Option, Some, None}
 use Rattle.std.specs.List.{flat_map}
-use Rattle.bits_top.specs.declared.form.Field.{Field}
-use Rattle.bits_top.specs.declared.form.Part.{Part}
-use Rattle.bits_top.specs.declared.form.Item.{Item}
-use Rattle.bits_top.specs.declared.form.Item.TheVariants.{Match, Display}
-use Rattle.bits_top.specs.declared.form.Straight.{Straight}
+pub use Rattle.first_form.specs.Form.{reserved, IsName, IsSize, IsField, part_size, IsPart, AreNew, IsMatch, IsItem, bound_by, AreItems, IsStraight}
+use Rattle.first_form.specs.declared.form.Field.{Field}
+use Rattle.first_form.specs.declared.form.Part.{Part}
+use Rattle.first_form.specs.declared.form.Item.{Item}
+use Rattle.first_form.specs.declared.form.Item.TheVariants.{Match, Display}
+use Rattle.first_form.specs.declared.form.Straight.{Straight}
 
 -- the texts in a row, with the separator between each two
 abbrev pub separated : List ℕ → List (List ℕ) → List ℕ
@@ -31,70 +32,6 @@ item_text (Display variable) = codes "erlang:display(" ++ variable ∷ codes ")"
 abbrev pub text_of : Straight → List ℕ
 text_of straight = codes "-module(" ++ straight.name ++ codes ").\n-export([main/0]).\nmain() -> "
     ++ separated (codes ", ") (map item_text straight.items) ++ codes ".\n"
-
--- the words that are no atoms ("Reserved Words")
-abbrev pub reserved : List (List ℕ)
-reserved = codes "after" ∷ codes "and" ∷ codes "andalso" ∷ codes "band" ∷ codes "begin" ∷ codes "bnot" ∷ codes "bor" ∷ codes "bsl" ∷ codes "bsr"
-    ∷ codes "bxor" ∷ codes "case" ∷ codes "catch" ∷ codes "cond" ∷ codes "div" ∷ codes "end" ∷ codes "fun" ∷ codes "if" ∷ codes "let" ∷ codes "not"
-    ∷ codes "of" ∷ codes "or" ∷ codes "orelse" ∷ codes "receive" ∷ codes "rem" ∷ codes "try" ∷ codes "when" ∷ codes "xor" ∷ []
-
--- an atom of 1 to 20 letters
-pub record IsName (name : List ℕ) : Type 0 where
-  pub some : 0 < length name
-  pub short : length name ≤ 20
-  pub letters : All (λ c. (97 ≤ c) × (c ≤ 122)) name
-  pub free : Contains reserved name → ⊥
-
--- a size in bits
-abbrev pub IsSize : ℕ → Type 0
-IsSize bits = (1 ≤ bits) × (bits ≤ 64)
-
-pub record IsField (field : Field) : Type 0 where
-  pub letter : (65 ≤ field.variable) × (field.variable ≤ 90)
-  pub size : IsSize field.bits
-
--- a segment of an integer has 8 bits where no size is given ("Bit Syntax Expressions")
-abbrev pub part_size : Option ℕ → ℕ
-part_size None = 8
-part_size (Some bits) = bits
-
-pub record IsPart (part : Part) : Type 0 where
-  pub value : part.value ≤ 4_294_967_295
-  pub size : IsSize (part_size part.bits)
-
--- none of the variables is known, nor named twice
-abbrev pub AreNew : List ℕ → List Field → Type 0
-AreNew known [] = Unit {0}
-AreNew known (field ∷ fields) = (Contains known field.variable → ⊥) × AreNew (known ++ field.variable ∷ []) fields
-
--- a match of new variables, with as many bits on both sides
-pub record IsMatch (known : List ℕ) (fields : List Field) (parts : List Part) : Type 0 where
-  pub some_fields : 0 < length fields
-  pub some_parts : 0 < length parts
-  pub fields_fit : All IsField fields
-  pub parts_fit : All IsPart parts
-  pub new : AreNew known fields
-  pub even : sum_by (λ field. field.bits) fields ≡ sum_by (λ part. part_size part.bits) parts
-
--- an item where these variables are known
-abbrev pub IsItem : List ℕ → Item → Type 0
-IsItem known (Match fields parts) = IsMatch known fields parts
-IsItem known (Display variable) = Contains known variable
-
--- the variables that an item binds
-abbrev pub bound_by : Item → List ℕ
-bound_by (Match fields parts) = map (λ field. field.variable) fields
-bound_by (Display variable) = []
-
--- items one after another, the first where these variables are known
-abbrev pub AreItems : List ℕ → List Item → Type 0
-AreItems known [] = Unit {0}
-AreItems known (item ∷ items) = IsItem known item × AreItems (known ++ bound_by item) items
-
-pub record IsStraight (straight : Straight) : Type 0 where
-  pub name : IsName straight.name
-  pub some : 0 < length straight.items
-  pub items : AreItems [] straight.items
 
 -- the text spells the module, which has the form
 pub record IsForm (text : List ℕ) (straight : Straight) : Type 0 where

@@ -1,9 +1,9 @@
 -- What the parts of a text spell, one after another.
 use Rattle.std.specs.Prelude.{◌≡◌, ◌≢◌, ℕ, ◌≤◌, ◌<◌, List, ◌∷◌, ◌++◌, length, map, codes, decimal, All}
 use Rattle.bits_top.specs.Form.{separated, field_text, part_text, item_text, IsField, IsPart, IsItem, AreItems}
-use Rattle.bits_top.specs.declared.form.Field.{Field}
-use Rattle.bits_top.specs.declared.form.Part.{Part}
-use Rattle.bits_top.specs.declared.form.Item.{Item}
+use Rattle.first_form.specs.declared.form.Field.{Field}
+use Rattle.first_form.specs.declared.form.Part.{Part}
+use Rattle.first_form.specs.declared.form.Item.{Item}
 
 -- the text, cut at the first such byte
 pub record IsCut (text : List ℕ) (byte : ℕ) (before after : List ℕ) : Type 0 where

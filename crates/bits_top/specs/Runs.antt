@@ -10,11 +10,11 @@ use Rattle.bits_top.specs.Body.{segments, pattern, code_of}
 use Rattle.bits_top.specs.Form.{part_size, AreItems}
 use Rattle.bits_top.specs.Asks.{goes}
 use Rattle.bits_top.specs.declared.entry.Entry.{Entry}
-use Rattle.bits_top.specs.declared.form.Field.{Field}
-use Rattle.bits_top.specs.declared.form.Part.{Part}
-use Rattle.bits_top.specs.declared.form.Item.{Item}
-use Rattle.bits_top.specs.declared.form.Item.TheVariants.{Match, Display}
-use Rattle.bits_top.specs.declared.form.Straight.{Straight}
+use Rattle.first_form.specs.declared.form.Field.{Field}
+use Rattle.first_form.specs.declared.form.Part.{Part}
+use Rattle.first_form.specs.declared.form.Item.{Item}
+use Rattle.first_form.specs.declared.form.Item.TheVariants.{Match, Display}
+use Rattle.first_form.specs.declared.form.Straight.{Straight}
 use Rattle.bits_top.specs.declared.matching.Binding.{Binding}
 use Rattle.bits_top.specs.declared.run.Ending.{Ending}
 use Rattle.bits_top.specs.declared.run.Outcome.{Outcome}

@@ -11,11 +11,11 @@ use Rattle.term_value.specs.Orders.{order_text}
 use Rattle.term_value.specs.Reports as reports
 use Rattle.term_value.specs.declared.entry.Entry.{Entry}
 use Rattle.bits_top.specs.Form.{bound_by}
-use Rattle.bits_top.specs.declared.form.Field.{Field}
-use Rattle.bits_top.specs.declared.form.Part.{Part}
-use Rattle.bits_top.specs.declared.form.Item.{Item}
-use Rattle.bits_top.specs.declared.form.Item.TheVariants as item
-use Rattle.bits_top.specs.declared.form.Straight.{Straight}
+use Rattle.first_form.specs.declared.form.Field.{Field}
+use Rattle.first_form.specs.declared.form.Part.{Part}
+use Rattle.first_form.specs.declared.form.Item.{Item}
+use Rattle.first_form.specs.declared.form.Item.TheVariants as item
+use Rattle.first_form.specs.declared.form.Straight.{Straight}
 
 -- the number of a variable, of variables that are numbered from a number on in the order in which they got their values
 abbrev pub number_of : ℕ → List ℕ → ℕ → ℕ

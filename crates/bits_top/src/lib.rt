@@ -3,7 +3,6 @@
 
 mod command;
 mod entry;
-mod form;
 mod matching;
 mod plain;
 mod program;

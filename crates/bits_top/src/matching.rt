@@ -7,7 +7,7 @@ ghost use Rattle.bits_top.specs.Body.{segments};
 ghost use Rattle.bits_top.specs.Runs.{Binds, Decodes, fields_bits, parts_bits};
 ghost use Rattle.bits_top.specs.Tree.{built};
 
-use crate::form::{Field, Part};
+use first_form::{Field, Part};
 use bits_value::{Bits, Endian, put};
 use std::alloc::{AllocError, Global};
 

@@ -8,7 +8,7 @@ ghost use Rattle.bits_top.specs.declared.command.Command.{Command};
 ghost use Rattle.bits_top.specs.declared.command.Run.{Run};
 
 use crate::command::{Command, command_of};
-use crate::form::Straight;
+use first_form::Straight;
 use crate::streams::{ReadError, read_all, write_all};
 use crate::{Plain, Status, reader, run, texts};
 use io_ports::{Gate, Place, Sink, Source};

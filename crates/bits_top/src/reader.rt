@@ -2,15 +2,15 @@
 ghost use Rattle.std.specs.Prelude.{ℕ, List, [], IfOk, IfSome, MatchOption, ◌≡◌};
 ghost use Rattle.bits_top.specs.Form.{IsForm};
 ghost use Rattle.bits_top.specs.Reading.{IsFramed, SpellsItems};
-ghost use Rattle.bits_top.specs.declared.form.Item.{Item};
-ghost use Rattle.bits_top.specs.declared.form.Straight.{Straight};
+ghost use Rattle.first_form.specs.declared.form.Item.{Item};
+ghost use Rattle.first_form.specs.declared.form.Straight.{Straight};
 
 mod cuts;
 mod expressions;
 mod names;
 mod segments;
 
-use crate::form::{Item, Straight};
+use first_form::{Item, Straight};
 use cuts::cut;
 use erl_syntax::{Listed, Text};
 use expressions::item;

@@ -2,13 +2,13 @@
 ghost use Rattle.std.specs.Prelude.{ℕ, List, MatchOption, IfOk, IsTrue, ◌↔◌, ◌≡◌, ◌++◌, ◌∷◌, map, codes};
 ghost use Rattle.bits_top.specs.Form.{AreNew, bound_by};
 ghost use Rattle.bits_top.specs.Reading.{IsDisplay, AreSides, SpellsItem};
-ghost use Rattle.bits_top.specs.declared.form.Item.{Item};
-ghost use Rattle.bits_top.specs.declared.form.Part.{Part};
-ghost use Rattle.bits_top.specs.declared.form.Field.{Field};
+ghost use Rattle.first_form.specs.declared.form.Item.{Item};
+ghost use Rattle.first_form.specs.declared.form.Part.{Part};
+ghost use Rattle.first_form.specs.declared.form.Field.{Field};
 
 use super::cuts::cut;
 use super::segments::{are_even, fields, parts};
-use crate::form::{Field, Item};
+use first_form::{Field, Item};
 use erl_syntax::Listed;
 use std::alloc::{AllocError, Global};
 

@@ -2,11 +2,11 @@
 ghost use Rattle.std.specs.Prelude.{ℕ, List, MatchOption, IfOk, IsTrue, ◌↔◌, ◌≡◌, sum_by, All};
 ghost use Rattle.bits_top.specs.Form.{IsPart, part_size};
 ghost use Rattle.bits_top.specs.Reading.{IsNumber, SpellsField, SpellsFields, SpellsPart, SpellsParts};
-ghost use Rattle.bits_top.specs.declared.form.Field.{Field};
-ghost use Rattle.bits_top.specs.declared.form.Part.{Part};
+ghost use Rattle.first_form.specs.declared.form.Field.{Field};
+ghost use Rattle.first_form.specs.declared.form.Part.{Part};
 
 use super::cuts::cut;
-use crate::form::{Field, Part};
+use first_form::{Field, Part};
 use itoa::Buffer;
 use std::alloc::{AllocError, Global};
 use std::str;

@@ -1,5 +1,5 @@
 use super::read;
-use crate::form::{Field, Item, Part};
+use first_form::{Field, Item, Part};
 use std::test::Fail;
 
 #[test]

@@ -5,7 +5,7 @@ use Rattle.std.proofs.lemmas.Bool.Decides.{Decides-eqb}
 use Rattle.std.proofs.lemmas.Slice.Eq.{strip_prefix_is}
 use Rattle.bits_top.specs.Form.{bound_by}
 use Rattle.bits_top.specs.Reading.{SpellsItems}
-use Rattle.bits_top.specs.declared.form.Item.{Item}
+use Rattle.first_form.specs.declared.form.Item.{Item}
 use Rattle.bits_top.proofs.ReadingItems.{first_of_items, items_left, items_more, no_items}
 use Rattle.bits_top.proofs.reader.items.Goals as goal
 

@@ -1,6 +1,6 @@
 use Rattle.std.proofs.Common.{◌≡◌, ◌++◌, List, [], length}
 use Rattle.bits_top.specs.Reading.{SpellsItems}
-use Rattle.bits_top.specs.declared.form.Item.{Item}
+use Rattle.first_form.specs.declared.form.Item.{Item}
 use Rattle.bits_top.proofs.reader.items.Given as goal
 
 abbrev pub invariant-loop-items : goal.invariant-loop-items

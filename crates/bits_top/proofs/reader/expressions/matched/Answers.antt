@@ -1,8 +1,8 @@
 use Rattle.std.proofs.Common.{◌≡◌, List, sym, ◌∙◌, sum_by, subst}
 use Rattle.std.proofs.lemmas.Bool.{false≢true}
 use Rattle.bits_top.specs.Form.{AreNew, part_size}
-use Rattle.bits_top.specs.declared.form.Field.{Field}
-use Rattle.bits_top.specs.declared.form.Part.{Part}
+use Rattle.first_form.specs.declared.form.Field.{Field}
+use Rattle.first_form.specs.declared.form.Part.{Part}
 use Rattle.bits_top.proofs.Spelling.{fields_once, parts_once}
 use Rattle.bits_top.proofs.ReadingItems.{match_parts, match_is_sides}
 use Rattle.bits_top.proofs.reader.expressions.matched.Goals as goal

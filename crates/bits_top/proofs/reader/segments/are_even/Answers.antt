@@ -4,7 +4,7 @@ use Rattle.std.proofs.lemmas.Iterator.Consumers.{fits_by_from_yields_list}
 use Rattle.std.proofs.lemmas.List.Sums.{sum_by-le}
 use Rattle.std.proofs.lemmas.List.Elements.{All-weaker}
 use Rattle.bits_top.specs.Form.{part_size, IsPart}
-use Rattle.bits_top.specs.declared.form.Part.{Part}
+use Rattle.first_form.specs.declared.form.Part.{Part}
 use Rattle.bits_top.proofs.reader.segments.are_even.Goals as goal
 
 pub sum-right-requires-clause-fits : goal.sum-right-requires-clause-fits
