@@ -70,3 +70,12 @@ pub record IsStraight (straight : Straight) : Type 0 where
   pub name : IsName straight.name
   pub some : 0 < length straight.items
   pub items : AreItems [] straight.items
+
+-- the bits of a bit expression
+abbrev pub parts_bits : List Part → ℕ
+parts_bits parts = sum_by (λ part. part_size part.bits) parts
+
+-- within the bound of a bitstring
+abbrev pub IsShort : Item → Type 0
+IsShort (Match fields parts) = parts_bits parts ≤ 134_217_728
+IsShort (Display variable) = Unit {0}

@@ -1,3 +1,4 @@
 pub mod Form
 pub mod TreeOf
+pub mod Walk
 pub mod Whole
