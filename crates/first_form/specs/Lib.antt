@@ -1,4 +1,5 @@
 pub mod Form
+pub mod Numbers
 pub mod TreeOf
 pub mod Walk
 pub mod Whole
