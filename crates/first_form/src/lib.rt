@@ -2,5 +2,7 @@
 #![tactic(auto)]
 
 mod form;
+mod numbers;
 
 pub use form::{Field, Item, Part, Straight};
+pub use numbers::trees_are_read;

@@ -1,0 +1,4 @@
+pub mod NamesRead
+pub mod Places
+pub mod TreesRead
+pub mod Walked

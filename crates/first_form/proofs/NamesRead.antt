@@ -1,0 +1,41 @@
+-- An atom's number in a table in which each stands once.
+use Rattle.std.proofs.Common.{◌≡◌, ℕ, suc, ◌+◌, ◌<◌, Bool, true, false, cond, if◌then◌else◌, List, [], ◌∷◌, ◌++◌, length, slice_index_or, refl, sym, ap, ◌∙◌, arith, length-append}
+use Rattle.std.specs.Str.{bytes_eq}
+use Rattle.std.specs.Ordering.{is_eq, nat_cmp}
+use Rattle.std.specs.Cmp.Lexicographic.{slice_cmp}
+use Rattle.std.proofs.Math.Seq.{get_or-append_seam}
+use Rattle.std.proofs.lemmas.Map.Text.{is_eq-slice_cmp}
+use Rattle.erl_syntax.specs.Checking.{Spelled}
+use Rattle.erl_syntax.specs.Reading.{number_in}
+use Rattle.erl_syntax.specs.declared.module.Module.{Module}
+use Rattle.term_value.specs.Machine.{atom_from}
+use Rattle.first_form.specs.Numbers.{StandOnce}
+
+module _ (m : Module) (atom : ℕ) (chars : List ℕ) (s : Spelled m atom chars) where
+  pub spelled_name : slice_index_or m.atoms atom [] ≡ chars
+  spelled_name =
+      ap (λ atoms. slice_index_or atoms atom []) s.stands
+      ∙ ap (λ n. slice_index_or (s.front ++ chars ∷ s.back) n []) (sym s.number)
+      ∙ get_or-append_seam s.front chars s.back []
+
+  pub spelled_number : StandOnce m.atoms → number_in m.atoms chars ≡ atom
+  spelled_number once =
+      let long : length m.atoms ≡ length s.front + length (chars ∷ s.back) = ap length s.stands ∙ length-append s.front (chars ∷ s.back) in
+      let n : length s.front ≡ atom = s.number in
+      let l : atom < length m.atoms = omega arith in
+      sym (ap (number_in m.atoms) spelled_name) ∙ once atom l
+
+-- atoms that are spelled alike are one
+pub spelled_once : (m : Module) (a b : ℕ) (chars : List ℕ) → StandOnce m.atoms → Spelled m a chars → Spelled m b chars → a ≡ b
+spelled_once m a b chars once s t = sym (spelled_number m a chars s once) ∙ spelled_number m b chars t once
+
+-- the machine's number of an atom
+pub from_number : (n : ℕ) (atoms : List (List ℕ)) (chars : List ℕ) → atom_from n atoms chars ≡ n + number_in atoms chars
+from_number n [] chars = omega arith
+from_number n (atom ∷ atoms) chars =
+    let ih : atom_from (n + 1) atoms chars ≡ (n + 1) + number_in atoms chars = from_number (n + 1) atoms chars in
+    ap (λ t. cond t n (atom_from (n + 1) atoms chars)) (is_eq-slice_cmp atom chars) ∙ by (bytes_eq atom chars) ih
+  where
+    by : (t : Bool) → atom_from (n + 1) atoms chars ≡ (n + 1) + number_in atoms chars → cond t n (atom_from (n + 1) atoms chars) ≡ n + (if t then 0 else 1 + number_in atoms chars)
+    by true ih = omega arith
+    by false ih = omega arith

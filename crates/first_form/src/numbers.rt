@@ -1,0 +1,13 @@
+ghost use Rattle.std.specs.Prelude.{ℕ};
+ghost use Rattle.erl_syntax.specs.declared.span.Span.{Span};
+ghost use Rattle.erl_syntax.specs.declared.module.Module.{Module};
+ghost use Rattle.first_form.specs.Numbers.{AreNumbersOf, IsReadAs, StandOnce};
+ghost use Rattle.first_form.specs.Form.{IsStraight};
+ghost use Rattle.first_form.specs.TreeOf.{IsTreeOf};
+ghost use Rattle.first_form.specs.declared.form.Straight.{Straight};
+
+/// The tree of a module of today's form is read as that module, whatever numbers its variables have in the order of the text.
+pub fn trees_are_read()
+    ensures { (number_at : Span → ℕ) (m : Module) (straight : Straight) → IsTreeOf m straight → IsStraight straight →
+        AreNumbersOf number_at m → StandOnce m.atoms → IsReadAs number_at m straight }
+{}
