@@ -1,4 +1,5 @@
 pub mod NamesRead
+pub mod ModuleRead
 pub mod Places
 pub mod TreesRead
 pub mod Walked

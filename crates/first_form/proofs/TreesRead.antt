@@ -1,5 +1,5 @@
 -- How the parts of a module of today's form are read by the whole language.
-use Rattle.std.proofs.Common.{◌≡◌, ℕ, ℤ, pos, true, List, [], ◌∷◌, ◌++◌, map, codes, Option, Some, None, refl, sym, ap, ◌∙◌, append-nil}
+use Rattle.std.proofs.Common.{◌≡◌, ℕ, ℤ, pos, List, [], ◌∷◌, ◌++◌, map, codes, Option, Some, None, refl, sym, ap, ◌∙◌}
 use Rattle.std.specs.List.{flat_map}
 use Rattle.std.proofs.lemmas.List.Concat.{flat_map-cons}
 use Rattle.erl_syntax.specs.declared.span.Span.{Span}
@@ -13,6 +13,7 @@ use Rattle.erl_syntax.specs.declared.segment.Segment.{Segment}
 use Rattle.erl_syntax.specs.declared.segment.Spec.{Spec}
 use Rattle.erl_syntax.specs.declared.clause.Guard as syntax
 use Rattle.erl_syntax.specs.declared.clause.Item as syntax_item
+use Rattle.term_value.specs.Calls.{called}
 use Rattle.term_value.specs.Value.{VInt, VAtom}
 use Rattle.term_value.specs.Tree.{Display, Tree, Var, All, end, and, never, or, Guard, Pattern, PBits}
 use Rattle.term_value.specs.Read.{Reading, Read, literal, expression, Piece, piece, pieces, built_from, segments, Line, call, guard_of, Branch, Qualifier}
@@ -21,7 +22,6 @@ use Rattle.first_form.specs.TreeOf.{IsSizeOf, not_given, given, IsFieldOf, AreFi
 use Rattle.first_form.specs.Whole.{field_pieces, size_read, part_piece, line}
 use Rattle.first_form.specs.declared.form.Field.{Field}
 use Rattle.first_form.specs.declared.form.Part.{Part}
-use Rattle.first_form.specs.declared.form.Item.{Item}
 use Rattle.first_form.specs.declared.form.Item.TheVariants as item
 
 abbrev pub expr_read : Reading → Expr → Read
@@ -33,6 +33,10 @@ segment_read r s = fold-Segment Read Pattern Qualifier Branch Branch Guard Line 
 abbrev pub optional_read : Reading → Option Expr → Option Read
 optional_read r None = None
 optional_read r (Some e) = Some (expr_read r e)
+
+-- `erlang:display/1`
+displayed : (home name : List ℕ) (place : ℕ) → home ≡ codes "erlang" → name ≡ codes "display" → called (Some home) name 1 place ≡ Display
+displayed home name place h n = ap (λ t. called (Some t) name 1 place) h ∙ ap (λ t. called (Some (codes "erlang")) t 1 place) n
 
 module _ (r : Reading) where
   pub integer_read : (e : Expr) (at : Span) (n : ℤ) → e ≡ x.Int at n → expr_read r e ≡ literal (VInt n)
@@ -122,7 +126,8 @@ module _ (r : Reading) where
       let value : tree_of r i.value ≡ called_with (expr_read r home) (expr_read r argument) = ap (λ (u : Read). u.tree) (call_read i.value at (home ∷ []) name (argument ∷ []) ve) in
       let homed : called_with (expr_read r home) (expr_read r argument) ≡ called_with (literal (VAtom home_name)) (expr_read r argument) = ap (λ h. called_with h (expr_read r argument)) (atom_read home home_at home_name he) in
       let argued : called_with (literal (VAtom home_name)) (expr_read r argument) ≡ called_with (literal (VAtom home_name)) (variable (r.number_at az)) = ap (called_with (literal (VAtom home_name))) (variable_read argument az (letter ∷ []) ae) in
-      let shown : called_with (literal (VAtom home_name)) (variable (r.number_at az)) ≡ All Display (and (Var (r.number_at az)) end) = rw (hn, ne) refl in
+      let shown : called_with (literal (VAtom home_name)) (variable (r.number_at az)) ≡ All Display (and (Var (r.number_at az)) end) =
+          ap (λ form. All form (and (Var (r.number_at az)) end)) (displayed (r.names home_name) (r.names name) (r.place name 1) hn ne) in
       lined i [] (All Display (and (Var (number letter)) end))
           (ap (map (pattern_of r)) pe)
           (value ∙ homed ∙ argued ∙ shown ∙ ap (λ n. All Display (and (Var n) end)) numbered)

@@ -1,13 +1,13 @@
 -- The variables of a function of today's form: each field's gets its value where it stands, and each displayed one has it.
-use Rattle.std.proofs.Common.{◌≡◌, ◌≢◌, ℕ, suc, zero, List, [], ◌∷◌, ◌++◌, map, reverse, All, refl, sym, ap, subst, ◌∙◌, arith, append_assoc, append-nil, inl, inr}
+use Rattle.std.proofs.Common.{◌≡◌, ◌≢◌, ℕ, List, [], ◌∷◌, ◌++◌, map, reverse, refl, sym, ap, subst, ◌∙◌, arith, append_assoc, append-nil, inl, inr}
 use Rattle.std.specs.List.{Contains, AllByRecursion, flat_map}
 use Rattle.std.proofs.lemmas.List.{map-append}
 use Rattle.std.proofs.lemmas.List.Concat.{flat_map-cons}
 use Rattle.std.proofs.lemmas.Grind.{flat_map-append}
-use Rattle.std.proofs.lemmas.List.Elements.{Contains-append_right, Contains-append_cases}
+use Rattle.std.proofs.lemmas.List.Elements.{Contains-append_cases}
 use Rattle.erl_syntax.specs.Bindings.{Bound, Vars, Row, names, expr_layer, pattern_layer, qual_layer, alt_layer, branch_layer, guard_layer, item_layer, segment_layer, vars_of, targets, vars_of_segment, targets_of, segment_targets}
-use Rattle.erl_syntax.specs.Scopes.{Scope, Part as ScopePart, AnExpr, APattern, ABody, ASegment, Stands, head_body, item_value, item_pattern, pattern_segment, part, Parts, Found, IsKnown, nothing_known, with_known, behind, to_match, past_patterns, past_segments, past_items, item_targets, is_empty}
-use Rattle.erl_syntax.specs.Checking.{IsTarget, IsRead, Place, IsPlace}
+use Rattle.erl_syntax.specs.Scopes.{Scope, APattern, Stands, pattern_segment, IsKnown, with_known, behind, past_segments, past_items, item_targets, is_empty}
+use Rattle.erl_syntax.specs.Checking.{IsTarget, IsPlace}
 use Rattle.erl_syntax.specs.declared.span.Span.{Span}
 use Rattle.erl_syntax.specs.declared.expr.Expr.{Expr}
 use Rattle.erl_syntax.specs.declared.expr.Expr.TheVariants as x
@@ -19,15 +19,12 @@ use Rattle.erl_syntax.specs.declared.segment.Segment.{Segment}
 use Rattle.erl_syntax.specs.declared.clause.Item as syntax_item
 use Rattle.erl_syntax.specs.declared.module.Module.{Module}
 use Rattle.erl_syntax.specs.declared.module.Function.{Function}
-use Rattle.erl_syntax.specs.declared.module.Clause.{Clause}
 use Rattle.erl_syntax.specs.declared.typing.SideUse.TheVariants as side
-use Rattle.first_form.specs.Form.{AreNew, IsItem, AreItems, bound_by}
+use Rattle.first_form.specs.Form.{AreNew, bound_by}
 use Rattle.first_form.specs.TreeOf.{IsFieldOf, AreFieldsOf, no_field, and_field, IsItemOf, AreItemsOf, no_item, and_item}
 use Rattle.first_form.specs.declared.form.Field.{Field}
-use Rattle.first_form.specs.declared.form.Part.{Part}
 use Rattle.first_form.specs.declared.form.Item.{Item}
-use Rattle.first_form.specs.declared.form.Item.TheVariants as item
-use Rattle.first_form.proofs.Places.{among_head, among_tail, among_none, among_one, place_in, found_in, place_before, first_place}
+use Rattle.first_form.proofs.Places.{among_head, among_tail, among_one, place_in, first_place}
 
 -- a name of one letter
 abbrev pub sole : ℕ → List ℕ
@@ -134,13 +131,13 @@ module _ (f : Function) (s : Scope) (pt : Pattern) (at : Span) (left : List Segm
 
 -- ---- The variables of items
 
-match_targets : (i : syntax_item.Item) (at : Span) (left : List Segment) → i.patterns ≡ p.Bits at left ∷ [] → item_targets i ≡ segment_targets left
+pub match_targets : (i : syntax_item.Item) (at : Span) (left : List Segment) → i.patterns ≡ p.Bits at left ∷ [] → item_targets i ≡ segment_targets left
 match_targets i at left e = ap (λ ps. targets_of (reverse ps)) e ∙ append-nil (targets (p.Bits at left)) ∙ bits_targets (p.Bits at left) at left refl
 
-no_targets : (i : syntax_item.Item) → i.patterns ≡ [] → item_targets i ≡ []
+pub no_targets : (i : syntax_item.Item) → i.patterns ≡ [] → item_targets i ≡ []
 no_targets i e = ap (λ ps. targets_of (reverse ps)) e
 
-known_past : (is : List syntax_item.Item) (s : Scope) → (past_items is s).known ≡ s.known ++ flat_map item_targets is
+pub known_past : (is : List syntax_item.Item) (s : Scope) → (past_items is s).known ≡ s.known ++ flat_map item_targets is
 known_past [] s = sym (append-nil s.known)
 known_past (i ∷ is) s =
     known_past is (with_known (item_targets i) (behind (i.value ∷ []) s)) ∙ append_assoc s.known (item_targets i) (flat_map item_targets is)
