@@ -7,6 +7,7 @@ pub mod Runs
 pub mod SameAsks
 pub mod SameMatch
 pub mod SamePut
+pub mod SameRead
 pub mod SameRuns
 pub mod SameWalks
 pub mod Sizes
