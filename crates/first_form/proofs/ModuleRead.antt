@@ -59,7 +59,7 @@ module _ (m : Module) (f : syntax_function.Function) (c : syntax_clause.Clause) 
         let stands : Stands f s (APattern (p.Bits at left)) = item_pattern start c.body front i back [] (p.Bits at left) [] body_stands cut pe in
         let same : s.known ++ segment_targets [] ≡ flat_map item_targets front = append-nil s.known ∙ append-nil (past_items front start).known ∙ past_known front in
         subst (AllByRecursion (IsBinder f)) (sym (match_targets i at left pe))
-            (fields_bind f s (p.Bits at left) at left stands refl [] letters fields places left refl fe fits.new (ap names same ∙ known))
+        (fields_bind f s (p.Bits at left) at left stands refl [] letters fields places left refl fe fits.new (ap names same ∙ known))
     item_binds one here (IsItemOf.display letter j at az home argument name pe ve he ne ae) fits = subst (AllByRecursion (IsBinder f)) (sym (no_targets i pe)) tt
 
     -- a displayed variable
@@ -126,7 +126,7 @@ module _ (m : Module) (f : syntax_function.Function) (c : syntax_clause.Clause) 
         (one : Item) (here : List Span) → IsItemOf m one here i → IsItem letters one → line_of (reading number_at m) i ≡ line number one
     item_line front i back cut letters known one here (IsItemOf.match fields parts places j at az left right pe fe ve qe) fits =
         let around : flat_map item_targets c.body ≡ flat_map item_targets front ++ (segment_targets left ++ flat_map item_targets back) =
-            all_around front i back cut letters known ∙ ap (λ bs. flat_map item_targets front ++ (bs ++ flat_map item_targets back)) (match_targets i at left pe) in
+        all_around front i back cut letters known ∙ ap (λ bs. flat_map item_targets front ++ (bs ++ flat_map item_targets back)) (match_targets i at left pe) in
         let found : AreFound (flat_map item_targets c.body) fields places = fields_found (flat_map item_targets c.body) (flat_map item_targets back) (flat_map item_targets front) letters fields places left around fe fits.new known in
         match_read (reading number_at m) number fields parts places i at az left right pe fe ve qe (fields_named fields places found)
     item_line front i back cut letters known one here (IsItemOf.display letter j at az home argument name pe ve he ne ae) fits =
@@ -134,12 +134,12 @@ module _ (m : Module) (f : syntax_function.Function) (c : syntax_clause.Clause) 
         let behind_them : List Bound = item_targets i ++ flat_map item_targets back in
         let has_name : IsKnown bounds (sole letter) = subst (λ ns. Contains ns (sole letter)) (sym known) (in_sole letters letter fits) in
         let same : place_in (flat_map item_targets c.body) (sole letter) ≡ place_in bounds (sole letter) =
-            ap (λ bs. place_in bs (sole letter)) (all_around front i back cut letters known) ∙ place_before bounds behind_them (sole letter) has_name in
+        ap (λ bs. place_in bs (sole letter)) (all_around front i back cut letters known) ∙ place_before bounds behind_them (sole letter) has_name in
         let place : IsPlace f (record { at = az; bound_at = place_in (flat_map item_targets c.body) (sole letter) }) =
-            subst (λ z. IsPlace f (record { at = az; bound_at = z })) (sym same) (displays front i back cut letters known letter at az home argument name ve ae.is fits) in
+        subst (λ z. IsPlace f (record { at = az; bound_at = z })) (sym same) (displays front i back cut letters known letter at az home argument name ve ae.is fits) in
         let has : IsKnown (flat_map item_targets c.body) (sole letter) = subst (λ bs. IsKnown bs (sole letter)) (sym (all_around front i back cut letters known)) (known_more bounds behind_them (sole letter) has_name) in
         display_read (reading number_at m) number letter i at az he.at home argument he.number name pe ve he.is (spelled_name m he.number (codes "erlang") he.spelled) (spelled_name m name (codes "display") ne) ae.is
-            (letter_number letter az has place)
+        (letter_number letter az has place)
 
     pub items_lines : (front is : List syntax_item.Item) (letters : List ℕ) (items : List Item) (places : List Span) → c.body ≡ front ++ is → AreItemsOf m items places is → AreItems letters items →
         names (flat_map item_targets front) ≡ map sole letters → map (line_of (reading number_at m)) is ≡ map (line number) items

@@ -115,8 +115,8 @@ module _ (r : Reading) where
       line_of r i ≡ line number (item.Match fields parts)
   match_read number fields parts places i at az left right pe fe ve qe named =
       lined i (PBits (segments (field_pieces number fields)) ∷ []) (built_from (map part_piece parts))
-          (ap (map (pattern_of r)) pe ∙ ap (λ q. q ∷ []) (bits_pattern_read (p.Bits at left) at left refl) ∙ ap (λ ps. PBits (segments ps) ∷ []) (fields_read number fields places left fe named))
-          (ap (λ (u : Read). u.tree) (bits_read i.value az right ve) ∙ ap built_from (parts_read parts right qe))
+      (ap (map (pattern_of r)) pe ∙ ap (λ q. q ∷ []) (bits_pattern_read (p.Bits at left) at left refl) ∙ ap (λ ps. PBits (segments ps) ∷ []) (fields_read number fields places left fe named))
+      (ap (λ (u : Read). u.tree) (bits_read i.value az right ve) ∙ ap built_from (parts_read parts right qe))
 
   pub display_read : (number : ℕ → ℕ) (letter : ℕ) (i : syntax_item.Item) (at az home_at : Span) (home argument : Expr) (home_name name : ℕ) →
       i.patterns ≡ [] → i.value ≡ x.Call at (home ∷ []) name (argument ∷ []) → home ≡ x.Atom home_at home_name → r.names home_name ≡ codes "erlang" → r.names name ≡ codes "display" →
@@ -127,10 +127,10 @@ module _ (r : Reading) where
       let homed : called_with (expr_read r home) (expr_read r argument) ≡ called_with (literal (VAtom home_name)) (expr_read r argument) = ap (λ h. called_with h (expr_read r argument)) (atom_read home home_at home_name he) in
       let argued : called_with (literal (VAtom home_name)) (expr_read r argument) ≡ called_with (literal (VAtom home_name)) (variable (r.number_at az)) = ap (called_with (literal (VAtom home_name))) (variable_read argument az (letter ∷ []) ae) in
       let shown : called_with (literal (VAtom home_name)) (variable (r.number_at az)) ≡ All Display (and (Var (r.number_at az)) end) =
-          ap (λ form. All form (and (Var (r.number_at az)) end)) (displayed (r.names home_name) (r.names name) (r.place name 1) hn ne) in
+      ap (λ form. All form (and (Var (r.number_at az)) end)) (displayed (r.names home_name) (r.names name) (r.place name 1) hn ne) in
       lined i [] (All Display (and (Var (number letter)) end))
-          (ap (map (pattern_of r)) pe)
-          (value ∙ homed ∙ argued ∙ shown ∙ ap (λ n. All Display (and (Var n) end)) numbered)
+      (ap (map (pattern_of r)) pe)
+      (value ∙ homed ∙ argued ∙ shown ∙ ap (λ n. All Display (and (Var n) end)) numbered)
 
   pub no_guard_read : (g : syntax.Guard) → g.alternatives ≡ [] → guard_tree r g ≡ or end never
   no_guard_read g h = fold_out-Guard Read Pattern Qualifier Branch Branch Guard Line (List Piece) (expr_layer r) (pattern_layer r) qual_layer alt_layer branch_layer guard_layer item_layer segment_layer g ∙ ap (λ tests. guard_of (map (map (expr_read r)) tests)) h

@@ -32,6 +32,11 @@ pub record AreNumbersIn (number_at : Span → ℕ) (f : Function) : Type 0 where
 abbrev pub AreNumbersOf : (Span → ℕ) → Module → Type 0
 AreNumbersOf number_at m = All (AreNumbersIn number_at) m.functions
 
+-- the module's variables have numbers
+pub record HaveNumbers (m : Module) : Type 0 where
+  pub number_at : Span → ℕ
+  pub numbers : AreNumbersOf number_at m
+
 -- each atom's number is its only place in the table
 abbrev pub StandOnce : List (List ℕ) → Type 0
 StandOnce atoms = (i : ℕ) → i < length atoms → number_in atoms (slice_index_or atoms i []) ≡ i

@@ -5,4 +5,4 @@ mod form;
 mod numbers;
 
 pub use form::{Field, Item, Part, Straight};
-pub use numbers::trees_are_read;
+pub use numbers::{trees_are_read, trees_have_numbers};

@@ -1,7 +1,9 @@
-ghost use Rattle.std.specs.Prelude.{ℕ};
+ghost use Rattle.std.specs.Prelude.{ℕ, List};
 ghost use Rattle.erl_syntax.specs.declared.span.Span.{Span};
 ghost use Rattle.erl_syntax.specs.declared.module.Module.{Module};
-ghost use Rattle.first_form.specs.Numbers.{AreNumbersOf, IsReadAs, StandOnce};
+ghost use Rattle.erl_syntax.specs.declared.checking.VarUse.{VarUse};
+ghost use Rattle.erl_syntax.specs.Checking.{AreNumbered};
+ghost use Rattle.first_form.specs.Numbers.{AreNumbersOf, HaveNumbers, IsReadAs, StandOnce};
 ghost use Rattle.first_form.specs.Form.{IsStraight};
 ghost use Rattle.first_form.specs.TreeOf.{IsTreeOf};
 ghost use Rattle.first_form.specs.declared.form.Straight.{Straight};
@@ -10,4 +12,9 @@ ghost use Rattle.first_form.specs.declared.form.Straight.{Straight};
 pub fn trees_are_read()
     ensures { (number_at : Span → ℕ) (m : Module) (straight : Straight) → IsTreeOf m straight → IsStraight straight →
         AreNumbersOf number_at m → StandOnce m.atoms → IsReadAs number_at m straight }
+{}
+
+/// The variables of a checked module of today's form have numbers: those that the check gave them.
+pub fn trees_have_numbers()
+    ensures { (m : Module) (straight : Straight) (uses : List VarUse) → IsTreeOf m straight → AreNumbered m.functions uses → HaveNumbers m }
 {}
