@@ -8,13 +8,13 @@ ghost use Rattle.first_form.specs.Form.{IsStraight};
 ghost use Rattle.first_form.specs.TreeOf.{IsTreeOf};
 ghost use Rattle.first_form.specs.declared.form.Straight.{Straight};
 
-/// The tree of a module of today's form is read as that module, whatever numbers its variables have in the order of the text.
+/// The tree of a module of today's form is read as that module, where its variables have their numbers at their places.
 pub fn trees_are_read()
     ensures { (number_at : Span → ℕ) (m : Module) (straight : Straight) → IsTreeOf m straight → IsStraight straight →
         AreNumbersOf number_at m → StandOnce m.atoms → IsReadAs number_at m straight }
 {}
 
-/// The variables of a checked module of today's form have numbers: those that the check gave them.
+/// The variables of a checked module of today's form have numbers at their places.
 pub fn trees_have_numbers()
     ensures { (m : Module) (straight : Straight) (uses : List VarUse) → IsTreeOf m straight → AreNumbered m.functions uses → HaveNumbers m }
 {}
