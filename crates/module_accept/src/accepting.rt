@@ -1,5 +1,6 @@
-ghost use Rattle.std.specs.Prelude.{◌≡◌, ◌⊎◌, ℕ, List, IfOk, IfErr};
-ghost use Rattle.erl_syntax.specs.Reading.{Reads};
+ghost use Rattle.std.specs.Prelude.{◌≡◌, ◌⊎◌, ◌<◌, ◌++◌, [], ℕ, List, IfOk, IfErr, length, slice_index_or};
+ghost use Rattle.erl_syntax.specs.Atoms.{fixed_atoms};
+ghost use Rattle.erl_syntax.specs.Reading.{Reads, number_in};
 ghost use Rattle.erl_syntax.specs.Checking.{IsFirstFault};
 ghost use Rattle.erl_syntax.specs.declared.module.Module.{Module};
 ghost use Rattle.erl_syntax.specs.declared.checking.CheckCause.TheVariants as c;
@@ -10,7 +11,7 @@ ghost use Rattle.module_accept.specs.Outcome.{Refuses};
 
 use crate::causes::{check_text, read_text};
 use crate::lines::line;
-use clause_read::{ReadCause, ReadFault, read_module};
+use clause_read::{ReadCause, ReadFault, atoms_stand_once, read_module};
 use erl_syntax::{CheckCause, CheckFault, Span};
 use module_check::{Checked, check};
 use std::alloc::{AllocError, Global};
@@ -73,9 +74,13 @@ fn unchecked(alloc: Global, fault: CheckFault) -> Refusal
 /// The line of the text's first fault, or that memory ran out.
 pub fn accept(alloc: Global, text: &[u8]) -> Result<Checked, Refusal>
     ensures accepted { IfOk result (λ checked. Accepts text.now checked.tree) }
+    ensures only { IfOk result (λ checked. (other : Module) → Accepts text.now other → other ≡ checked.tree) }
+    ensures fixed { IfOk result (λ checked. (more : List (List ℕ)) × (checked.tree.atoms ≡ fixed_atoms ++ more)) }
+    ensures once { IfOk result (λ checked. (i : ℕ) → i < length checked.tree.atoms → number_in checked.tree.atoms (slice_index_or checked.tree.atoms i []) ≡ i) }
     ensures refused { IfErr result (λ refusal. Refuses text.now refusal) }
     ensures none { IfErr result (λ refusal. (refusal ≡ Refusal.Memory) ⊎ ((m : Module) → Accepts text.now m → ⊥)) }
 {
+    atoms_stand_once();
     let module = match read_module(alloc, text) {
         Ok(module) => module,
         Err(fault) => return Err(unread(alloc, fault)),

@@ -1,4 +1,5 @@
-use Rattle.std.proofs.Common.{ℕ, List, ◌≡◌, inl, inr, sym, subst}
+use Rattle.std.proofs.Common.{ℕ, List, [], ◌≡◌, ◌<◌, ◌∙◌, ap, length, slice_index_or, inl, inr, sym, subst}
+use Rattle.erl_syntax.specs.Reading.{Reads, number_in}
 use Rattle.erl_syntax.specs.Checking.{IsAccepted}
 use Rattle.erl_syntax.specs.declared.module.Module.{Module}
 use Rattle.module_accept.proofs.accepting.accept.Goals as goal
@@ -17,3 +18,18 @@ returns-in-Err-check-clause-none c = elim c.in-Err-check.ensures.refused [
   | inl e ↦ inl (c.unchecked.ensures.memory e)
   | inr f ↦ inr (λ m a. subst IsAccepted (c.in-Ok.ensures.only m a.reads) a.accepted _ _ f.fault)
 ]
+
+pub returns-in-Ok-check-clause-only : goal.returns-in-Ok-check-clause-only
+returns-in-Ok-check-clause-only c = λ other a. c.in-Ok.ensures.only other a.reads ∙ sym c.in-Ok-check.ensures.accepted
+
+pub returns-in-Ok-check-clause-fixed : goal.returns-in-Ok-check-clause-fixed
+returns-in-Ok-check-clause-fixed c =
+    let reads : Reads c.args.text.now c.in-Ok.module = c.in-Ok.ensures.module in
+    let f = c.atoms_stand_once.ensures.fixed c.args.text.now reads.tokens in
+    (f.0, ap (λ m. let t : Module = m in t.atoms) c.in-Ok-check.ensures.accepted ∙ reads.atoms ∙ f.1)
+
+pub returns-in-Ok-check-clause-once : goal.returns-in-Ok-check-clause-once
+returns-in-Ok-check-clause-once c =
+    let reads : Reads c.args.text.now c.in-Ok.module = c.in-Ok.ensures.module in
+    let P : List (List ℕ) → Type 0 = λ atoms. (i : ℕ) → i < length atoms → number_in atoms (slice_index_or atoms i []) ≡ i in
+    subst P (sym (ap (λ m. let t : Module = m in t.atoms) c.in-Ok-check.ensures.accepted ∙ reads.atoms)) (c.atoms_stand_once.ensures.once c.args.text.now reads.tokens)
