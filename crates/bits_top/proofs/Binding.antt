@@ -10,8 +10,8 @@ use Rattle.bits_value.proofs.BitLists.{natural-lt}
 use Rattle.bits_value.specs.Number.{natural, bounded, spell}
 use Rattle.bits_value.specs.declared.Endian.TheVariants.{Big}
 use Rattle.bits_top.specs.Body.{segments}
-use Rattle.bits_top.specs.Form.{part_size}
-use Rattle.bits_top.specs.Runs.{parts_bits, fields_bits, bounds, known}
+use Rattle.first_form.specs.Form.{part_size, parts_bits}
+use Rattle.bits_top.specs.Runs.{fields_bits, bounds, known}
 use Rattle.bits_top.specs.Tree.{Bound, Target, matched_bits, built, Yes}
 use Rattle.bits_top.specs.Value.{VInt}
 use Rattle.first_form.specs.declared.form.Field.{Field}

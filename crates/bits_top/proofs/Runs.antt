@@ -8,7 +8,7 @@ use Rattle.bits_top.specs.Tree.{Bound, built, Call, value_in}
 use Rattle.bits_top.specs.Local.{Local, Show, Wants, ask_of}
 use Rattle.bits_top.specs.Machine.{Running, Over, Left, Machine, apply, after, Legal, IsLegal, first_of}
 use Rattle.bits_top.specs.Body.{segments, code_of}
-use Rattle.bits_top.specs.Form.{AreItems}
+use Rattle.first_form.specs.Form.{AreItems}
 use Rattle.bits_top.specs.Asks.{standing, resting, displays, matches, goes}
 use Rattle.bits_top.specs.Runs.{Runs, Stands, Binds, Advances, Finishes, HasRun, start, with_one, bounds, known, asks_end, end_of}
 use Rattle.bits_top.proofs.Goes.{asks_resting, asks_first}

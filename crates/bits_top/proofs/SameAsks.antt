@@ -16,8 +16,8 @@ use Rattle.bits_top.specs.Tree as own_tree
 use Rattle.bits_top.specs.Local as own_local
 use Rattle.bits_top.specs.Body as own_body
 use Rattle.bits_top.specs.Asks as own_asks
-use Rattle.first_form.specs.Form.{IsMatch, AreItems, bound_by}
-use Rattle.bits_top.specs.Runs.{IsShort, fields_bits, bounds, known}
+use Rattle.first_form.specs.Form.{IsMatch, AreItems, bound_by, IsShort}
+use Rattle.bits_top.specs.Runs.{fields_bits, bounds, known}
 use Rattle.first_form.specs.Whole.{line}
 use Rattle.bits_top.proofs.SameMatch.{built_length, decoded, numbered, Apart, Within, head_of, behind, apart_front, differ, own_taken}
 use Rattle.first_form.specs.declared.form.Field.{Field}

@@ -26,8 +26,8 @@ use Rattle.term_value.specs.Machine.{value_trees}
 use Rattle.bits_top.specs.Value as own
 use Rattle.bits_top.specs.Tree as own_tree
 use Rattle.bits_top.specs.Body as own_body
-use Rattle.first_form.specs.Form.{part_size, IsField, AreNew}
-use Rattle.bits_top.specs.Runs.{parts_bits, fields_bits, bounds}
+use Rattle.first_form.specs.Form.{part_size, IsField, AreNew, parts_bits}
+use Rattle.bits_top.specs.Runs.{fields_bits, bounds}
 use Rattle.first_form.specs.Whole.{field_pieces, size_read, part_piece}
 use Rattle.bits_top.proofs.Binding.{narrow_some, targets}
 use Rattle.first_form.specs.declared.form.Field.{Field}

@@ -4,11 +4,10 @@ use Rattle.erl_syntax.specs.Atoms.{fixed_atoms}
 use Rattle.erl_syntax.specs.declared.span.Span.{Span}
 use Rattle.erl_syntax.specs.declared.module.Module.{Module}
 use Rattle.term_value.specs.ReadTrees.{module_of}
-use Rattle.first_form.specs.Form.{IsStraight}
+use Rattle.first_form.specs.Form.{IsStraight, IsShort}
 use Rattle.first_form.specs.Numbers.{IsReadAs}
 use Rattle.first_form.specs.declared.form.Straight.{Straight}
-use Rattle.bits_top.specs.Answer.{IsStraightRun}
-use Rattle.bits_top.specs.Runs.{IsShort}
+use Rattle.bits_top.proofs.StraightRuns.{IsStraightRun}
 use Rattle.bits_top.specs.Whole.{IsRunOf}
 use Rattle.bits_top.proofs.SameRuns.{same_run}
 

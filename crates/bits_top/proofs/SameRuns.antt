@@ -24,11 +24,11 @@ use Rattle.bits_top.specs.Machine as own_machine
 use Rattle.bits_top.specs.Body.{code_of}
 use Rattle.bits_top.specs.Texts as own_texts
 use Rattle.bits_top.specs.Asks as own_asks
-use Rattle.first_form.specs.Form.{IsStraight, bound_by}
+use Rattle.first_form.specs.Form.{IsStraight, bound_by, IsShort}
 use Rattle.first_form.specs.Whole.{module_by, AreApart}
-use Rattle.bits_top.specs.Runs.{IsShort, bounds, end_of, with_one}
-use Rattle.bits_top.specs.Answer.{IsStraightRun}
-use Rattle.bits_top.specs.Whole.{number_of, module_of_straight, IsRunOf}
+use Rattle.bits_top.specs.Runs.{bounds, end_of, with_one}
+use Rattle.bits_top.proofs.StraightRuns.{IsStraightRun}
+use Rattle.bits_top.specs.Whole.{IsRunOf}
 use Rattle.bits_top.proofs.Goes as today
 use Rattle.bits_top.proofs.SameMatch.{Apart}
 use Rattle.bits_top.proofs.SameAsks.{Due, finished, exhausted, displaying, due, Fits, own_of, standing, resting, whole_of, own_goes, due_fits, not_first}
@@ -325,35 +325,3 @@ same_run number atoms others name main s (suc left) order report apart table cal
       reported = run.reported ∙ ap own_texts.machine_text f.own ∙ machine_lines s code (suc left) f.stage f.all spelled
           ∙ sym (ap reports.machine_text (ap (λ m. after m (map whole_entry run.entries)) at ∙ f.whole));
     }
-
--- numbers in the order in which the variables get their values
-
-number_from : (number : ℕ) (names : List ℕ) (x : ℕ) → number ≤ number_of number names x
-number_from number [] x = omega arith
-number_from number (name ∷ names) x = by_test (nat_eq name x) number (number_of (suc number) names x) (omega (arith, number_from (suc number) names x)) where
-  by_test : (t : Bool) (m n : ℕ) → m ≤ n → m ≤ cond t m n
-  by_test true m n h = omega arith
-  by_test false m n h = h
-
-both_or_none : (t u : Bool) (n p q : ℕ) → suc n ≤ p → suc n ≤ q → cond t n p ≡ cond u n q → ((t ≡ true) × (u ≡ true)) ⊎ ((t ≡ false) × (u ≡ false) × (p ≡ q))
-both_or_none true true n p q k l e = inl (refl, refl)
-both_or_none true false n p q k l e = absurd (omega (arith, k, l, e))
-both_or_none false true n p q k l e = absurd (omega (arith, k, l, e))
-both_or_none false false n p q k l e = inr (refl, refl, e)
-
-orders_apart : (number : ℕ) (names : List ℕ) → Apart (number_of number names) names
-orders_apart number [] = λ a b there here same. absurd (omega (arith, there.1))
-orders_apart number (name ∷ names) = λ a b there here same.
-    elim (both_or_none (nat_eq name a) (nat_eq name b) number (number_of (suc number) names a) (number_of (suc number) names b) (number_from (suc number) names a) (number_from (suc number) names b) same) [
-      | inl both ↦ sym (test_true name a both.0) ∙ test_true name b both.1
-      | inr neither ↦ orders_apart (suc number) names a b (not_first name a names there neither.0) (not_first name b names here neither.1) neither.2
-    ]
-  where
-    test_true : (m n : ℕ) → nat_eq m n ≡ true → m ≡ n
-    test_true m n t = grind (arith, nat_tests, t)
-
-pub same_run_in_order : (others : List (List ℕ)) (name : ℕ) (s : Straight) (r : ℕ) (order report : List ℕ) → IsStraight s → All IsShort s.items → 1 ≤ r → IsStraightRun s r order report →
-    IsRunOf (module_of_straight others name s) r order report
-same_run_in_order others name s r order report formed short some run =
-    same_run (number_of 0 (flat_map bound_by s.items)) (fixed_atoms ++ others) others name (atom_from 0 (fixed_atoms ++ others) (codes "main")) s r order report (orders_apart 0 (flat_map bound_by s.items)) refl refl
-    formed short some run

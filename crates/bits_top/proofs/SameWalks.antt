@@ -15,8 +15,8 @@ use Rattle.term_value.specs.Machine.{value_trees, first_of}
 use Rattle.term_value.specs.Local.{Local, Course, At, Fell, spent, Outcome, Wants, EndsDone, EndsRaised, Unfinished, walk, outcome_in, ask_of, size_of}
 use Rattle.bits_top.specs.Tree as own_tree
 use Rattle.bits_top.specs.Body as own_body
-use Rattle.first_form.specs.Form.{IsField, AreNew, AreItems, bound_by}
-use Rattle.bits_top.specs.Runs.{IsShort, parts_bits, fields_bits, known}
+use Rattle.first_form.specs.Form.{IsField, AreNew, AreItems, bound_by, IsShort, parts_bits}
+use Rattle.bits_top.specs.Runs.{fields_bits, known}
 use Rattle.first_form.specs.Whole.{field_pieces, part_piece, line, module_by, AreApart}
 use Rattle.bits_top.proofs.SamePut.{put_put}
 use Rattle.bits_top.proofs.SameMatch.{part_values, part_trees, values_put, prim_parts, decoded, numbered, Apart, apart_front, fields_taken, fields_put}

@@ -3,7 +3,7 @@ use Rattle.std.specs.Prelude.{List, [], ◌∷◌, map, codes, pos}
 use Rattle.bits_top.specs.Value.{VAtom}
 use Rattle.bits_top.specs.Tree.{Segment, Target, Pattern, PBits, Tree, Val, Var, Build, First, Next, Then, Last}
 use Rattle.bits_top.specs.Tree as tree
-use Rattle.bits_top.specs.Form.{part_size}
+use Rattle.first_form.specs.Form.{part_size}
 use Rattle.bits_top.specs.Local.{Code}
 use Rattle.first_form.specs.declared.form.Field.{Field}
 use Rattle.first_form.specs.declared.form.Part.{Part}

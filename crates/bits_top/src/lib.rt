@@ -6,7 +6,6 @@ mod entry;
 mod matching;
 mod plain;
 mod program;
-mod reader;
 mod run;
 mod status;
 mod streams;
