@@ -1,6 +1,14 @@
-pub mod NamesRead
+pub mod Around
+pub mod Comparing
+pub mod Fitting
+pub mod Joining
+pub mod Lengths
 pub mod ModuleRead
+pub mod NamesRead
 pub mod Numbered
+pub mod Once
 pub mod Places
+pub mod Steps
+pub mod Told
 pub mod TreesRead
 pub mod Walked

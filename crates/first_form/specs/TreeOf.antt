@@ -8,7 +8,6 @@ use Rattle.erl_syntax.specs.declared.span.Span.{Span}
 use Rattle.erl_syntax.specs.declared.token.Token.{Token}
 use Rattle.erl_syntax.specs.declared.expr.Expr.{Expr}
 use Rattle.erl_syntax.specs.declared.expr.Expr.TheVariants as x
-use Rattle.erl_syntax.specs.declared.pattern.Pattern.{Pattern}
 use Rattle.erl_syntax.specs.declared.pattern.Pattern.TheVariants as p
 use Rattle.erl_syntax.specs.declared.segment.Segment.{Segment}
 use Rattle.erl_syntax.specs.declared.clause.Item as syntax_item
