@@ -1,4 +1,4 @@
-use crate::{Item, straight_of};
+use crate::{Item, straight_of, trees_are_read, trees_have_numbers};
 use erl_syntax::{
     Clause, Expr, Function, Guard, Head, Item as Line, Listed, Module, Name, Pattern, Segment,
     Span, Text,
@@ -105,6 +105,8 @@ fn tree(alloc: Global, arity: i128) -> Result<Module, AllocError> {
 #[test]
 fn a_module_of_the_form_is_found(rt: HostRuntime) -> Result<(), Fail> {
     let alloc = rt.alloc();
+    trees_are_read();
+    trees_have_numbers();
     let straight = straight_of(alloc, TEXT, &tree(alloc, 0)?)?.ok_or("not of the form")?;
     assert_eq!(rt; straight.name.bytes(), b"m".as_slice());
     let [Item::Match { fields, parts }] = straight.items.items() else {
