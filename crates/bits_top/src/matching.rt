@@ -7,8 +7,8 @@ ghost use Rattle.bits_top.specs.Body.{segments};
 ghost use Rattle.bits_top.specs.Runs.{Binds, Decodes, fields_bits};
 ghost use Rattle.bits_top.specs.Tree.{built};
 
-use first_form::{Field, Part};
 use bits_value::{Bits, Endian, put};
+use first_form::{Field, Part};
 use std::alloc::{AllocError, Global};
 
 // A variable and the integer that a match bound it to.

@@ -7,9 +7,9 @@ ghost use Rattle.bits_top.specs.declared.command.Command.{Command};
 ghost use Rattle.bits_top.specs.declared.command.Run.{Run};
 
 use crate::command::{Command, command_of};
-use first_form::{Straight, straight_of};
 use crate::streams::{ReadError, read_all, write_all};
 use crate::{Plain, Status, run, texts};
+use first_form::{Straight, straight_of};
 use io_ports::{Gate, Place, Sink, Source};
 use module_accept::{Refusal, accept};
 use std::alloc::{AllocError, Global};

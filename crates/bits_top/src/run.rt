@@ -8,9 +8,9 @@ ghost use Rattle.first_form.specs.declared.form.Item.{Item};
 ghost use Rattle.first_form.specs.declared.form.Straight.{Straight};
 
 use crate::entry::Entry;
-use first_form::{Item, Straight};
 use crate::matching::{Binding, bind};
 use erl_syntax::Listed;
+use first_form::{Item, Straight};
 use std::alloc::{AllocError, Global};
 
 // How a run ended.
