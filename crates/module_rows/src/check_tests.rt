@@ -1,156 +1,326 @@
-use crate::checked;
-use std::alloc::Global;
-use std::process::Abort;
+use crate::rows::{all_say, texts_say};
 use std::test::Fail;
 
-/// Compares what the check of a text says with what it has to say.
-fn says(rt: &impl Abort, alloc: Global, text: &str, wanted: &str) -> Result<(), Fail> {
-    let found = checked(alloc, text.as_bytes())?;
-    assert_eq!(rt; found.as_slice(), wanted.as_bytes());
-    Ok(())
-}
-
-/// The same for a module whose text from the third line on this is.
-fn line(rt: &impl Abort, alloc: Global, text: &str, wanted: &str) -> Result<(), Fail> {
-    let text = format!(in alloc; "-module(m).\n-export([main/0]).\n{text}\n")?;
-    let wanted = format!(in alloc; "{wanted}\n")?;
-    says(rt, alloc, text.as_str(), wanted.as_str())
+#[test]
+fn variables_without_a_value_are_refused(rt: HostRuntime) -> Result<(), Fail> {
+    let rows = [
+        ("main() -> X.", "3:11: unbound variable"),
+        ("main() -> _X.", "3:11: unbound variable"),
+        ("main() -> X = X.", "3:15: unbound variable"),
+        ("main() when X -> ok.", "3:13: unbound variable"),
+        (
+            "main() -> case 1 of Y -> Y; 2 -> Y end.",
+            "3:34: unbound variable",
+        ),
+        (
+            "main() -> ok.\nf(X) -> X; f(_) -> X.",
+            "4:20: unbound variable",
+        ),
+        ("main() -> [X || X <- []], X.", "3:27: unbound variable"),
+        ("main() -> [X || X <- X].", "3:22: unbound variable"),
+        ("main() -> [1 || X, X <- [1]].", "3:17: unbound variable"),
+        (
+            "main() -> [Y || X <- [1], case X of Y -> true end].",
+            "3:12: unbound variable",
+        ),
+        (
+            "main() -> X = 1, if X > Y -> 1 end.",
+            "3:25: unbound variable",
+        ),
+        ("main() -> <<1:X>>.", "3:15: unbound variable"),
+    ];
+    all_say(&rt, rt.alloc(), &rows)
 }
 
 #[test]
-fn variables_are_checked(rt: HostRuntime) -> Result<(), Fail> {
-    let alloc = rt.alloc();
-    line(&rt, alloc, "main() -> X.", "3:11: unbound variable")?;
-    line(
-        &rt,
-        alloc,
-        "main() -> [X || X <- []], X.",
-        "3:27: unbound variable",
-    )?;
-    line(
-        &rt,
-        alloc,
-        "main() -> case 1 of X -> ok; Y -> ok end, X.",
-        "3:43: unsafe variable",
-    )?;
-    line(&rt, alloc, "main() -> receive X -> X end.", "ok")?;
-    Ok(())
+fn sizes_see_what_has_a_value(rt: HostRuntime) -> Result<(), Fail> {
+    let rows = [
+        ("main() -> <<N:N>> = <<1>>.", "3:15: unbound variable"),
+        ("main() -> <<_:N, N>> = <<1>>.", "3:15: unbound variable"),
+        (
+            "main() -> ok.\nf({N, <<_:N/binary>>}) -> N.",
+            "4:11: unbound variable",
+        ),
+        (
+            "main() -> ok.\nf(N, <<_:N/binary>>) -> N.",
+            "4:10: unbound variable",
+        ),
+        (
+            "main() -> ok.\nf(<<N>> = <<_:N>>) -> N.",
+            "4:15: unbound variable",
+        ),
+        (
+            "main() -> <<N>> = <<_:N>> = <<1>>.",
+            "3:23: unbound variable",
+        ),
+        ("main() -> <<_:N>> = <<N>> = <<1>>.", "ok"),
+        (
+            "main() -> [1 || {N, <<_:N>>} <- [1]].",
+            "3:25: unbound variable",
+        ),
+        (
+            "main() -> [1 || <<_:N, N>> <= <<1>>].",
+            "3:21: unbound variable",
+        ),
+    ];
+    all_say(&rt, rt.alloc(), &rows)
 }
 
 #[test]
-fn functions_are_checked(rt: HostRuntime) -> Result<(), Fail> {
-    let alloc = rt.alloc();
-    line(&rt, alloc, "main() -> f().", "3:11: undefined function")?;
-    line(&rt, alloc, "main() -> m:f().", "3:11: undefined function")?;
-    line(
-        &rt,
-        alloc,
-        "main() when f() -> ok.\nf() -> ok.",
-        "3:13: call in guard",
-    )?;
-    line(
-        &rt,
-        alloc,
-        "main() -> ok.\nmain() -> ok.",
-        "4:1: function again",
-    )?;
-    line(
-        &rt,
-        alloc,
-        "main() -> self().\nself() -> ok.",
-        "4:1: function again",
-    )?;
-    line(
-        &rt,
-        alloc,
-        "main() -> ok; main(X) -> X.",
-        "3:15: heads differ",
-    )?;
-    Ok(())
+fn unsafe_variables_are_refused(rt: HostRuntime) -> Result<(), Fail> {
+    let rows = [
+        (
+            "main() -> case 1 of X -> ok; Y -> ok end, X.",
+            "3:43: unsafe variable",
+        ),
+        ("main() -> receive Y -> Y end, Y.", "3:31: unsafe variable"),
+        (
+            "main() -> if true -> Y = 1 end, Y.",
+            "3:33: unsafe variable",
+        ),
+        (
+            "main() -> {case 1 of Y -> Y end, Y}.",
+            "3:34: unsafe variable",
+        ),
+        (
+            "main() -> case 1 of Y -> Y end, Y = 2.",
+            "3:33: unsafe variable",
+        ),
+        (
+            "main() -> case 1 of Y -> Y end, [1 || Y <- []].",
+            "3:39: unsafe variable",
+        ),
+        (
+            "main() -> case 1 of Y -> Y end, <<Y>> = <<1>>.",
+            "3:35: unsafe variable",
+        ),
+        (
+            "main() -> case 1 of X -> case 2 of Y -> Y end end, Y.",
+            "3:52: unsafe variable",
+        ),
+        (
+            "main() -> case 1 of X -> case 2 of Y -> Y end, Y end.",
+            "3:48: unsafe variable",
+        ),
+        (
+            "main() -> Y = case 1 of Y -> Y end, Y.",
+            "3:37: unsafe variable",
+        ),
+        (
+            "main() -> [1 || case 1 of Y -> Y end, Y].",
+            "3:39: unsafe variable",
+        ),
+        ("main() -> receive X -> X end.", "ok"),
+    ];
+    all_say(&rt, rt.alloc(), &rows)
 }
 
 #[test]
-fn segments_are_checked(rt: HostRuntime) -> Result<(), Fail> {
-    let alloc = rt.alloc();
-    line(
-        &rt,
-        alloc,
-        "main() -> <<1:8/integer-binary>>.",
-        "3:13: two specs of a kind",
-    )?;
-    line(
-        &rt,
-        alloc,
-        "main() -> <<1:8/unit:257>>.",
-        "3:13: unit out of range",
-    )?;
-    line(&rt, alloc, "main() -> <<1/float>>.", "3:13: float segment")?;
-    line(&rt, alloc, "main() -> <<1:8/utf8>>.", "3:13: size on utf")?;
-    line(
-        &rt,
-        alloc,
-        "main() -> <<1/utf8-unit:8>>.",
-        "3:13: unit on utf",
-    )?;
-    Ok(())
+fn undefined_functions_are_refused(rt: HostRuntime) -> Result<(), Fail> {
+    let rows = [
+        ("main() -> f().", "3:11: undefined function"),
+        ("main() -> m:f().", "3:11: undefined function"),
+        ("main() -> ?MODULE:f().", "3:11: undefined function"),
+        ("main() -> f(1).\nf() -> ok.", "3:11: undefined function"),
+        ("main() -> m:f().\nf() -> ok.", "3:11: undefined function"),
+        (
+            "main() -> ?MODULE:f().\nf() -> ok.",
+            "3:11: undefined function",
+        ),
+        ("main() -> n:main().", "3:11: undefined function"),
+        ("main() -> erlang:main().", "3:11: undefined function"),
+        ("main() -> {1, [f()]}.", "3:16: undefined function"),
+        ("main() -> <<(f()):8>>.", "3:14: undefined function"),
+        ("main() -> [1 || f()].", "3:17: undefined function"),
+        ("main() -> <<_:(f())>> = <<1>>.", "3:16: undefined function"),
+    ];
+    all_say(&rt, rt.alloc(), &rows)
 }
 
 #[test]
-fn more_segments_are_checked(rt: HostRuntime) -> Result<(), Fail> {
-    let alloc = rt.alloc();
-    line(
-        &rt,
-        alloc,
-        "main() -> <<1/unit:8>>.",
-        "3:13: unit without size",
-    )?;
-    line(
-        &rt,
-        alloc,
-        "main() -> <<\"a\"/binary>>.",
-        "3:13: string as binary",
-    )?;
-    line(
-        &rt,
-        alloc,
-        "main() -> <<A/binary,B/binary>> = <<1>>, A.",
-        "3:13: open segment not last",
-    )?;
-    line(
-        &rt,
-        alloc,
-        "main() -> [X || <<X/binary>> <= <<>>].",
-        "3:19: open segment in generator",
-    )?;
-    line(
-        &rt,
-        alloc,
-        "main() -> <<A:8,B:A/binary>> = <<1,2>>, B.",
-        "ok",
-    )?;
-    Ok(())
+fn calls_in_guards_are_refused(rt: HostRuntime) -> Result<(), Fail> {
+    let rows = [
+        ("main() when f() -> ok.\nf() -> ok.", "3:13: call in guard"),
+        ("main() when m:main() -> ok.", "3:13: call in guard"),
+        ("main() when ?MODULE:main() -> ok.", "3:13: call in guard"),
+        ("main() when true; {main()} -> ok.", "3:20: call in guard"),
+        (
+            "main() when self() =:= exit(1) -> ok.",
+            "3:24: call in guard",
+        ),
+        (
+            "main() -> if erlang:display(1) -> 1 end.",
+            "3:14: call in guard",
+        ),
+        (
+            "main() -> case 1 of X when main() -> X end.",
+            "3:28: call in guard",
+        ),
+        (
+            "main() -> receive X when X, main() -> X end.",
+            "3:29: call in guard",
+        ),
+        ("main() -> <<_:(main())>> = <<1>>.", "3:16: call in guard"),
+        (
+            "main() -> <<_:(abs(main()))>> = <<1>>.",
+            "3:20: call in guard",
+        ),
+        (
+            "main() -> [1 || <<_:(1 + main())>> <= <<1>>].",
+            "3:26: call in guard",
+        ),
+    ];
+    all_say(&rt, rt.alloc(), &rows)
 }
 
 #[test]
-fn modules_are_checked(rt: HostRuntime) -> Result<(), Fail> {
-    let alloc = rt.alloc();
-    says(
-        &rt,
-        alloc,
-        "-module(m).\n-module(m).\n-export([main/0]).\nmain() -> ok.\n",
-        "2:1: module again\n",
-    )?;
-    says(
-        &rt,
-        alloc,
-        "-module(m).\n-export([main/0,g/1]).\nmain() -> ok.\n",
-        "2:17: exported function missing\n",
-    )?;
-    says(&rt, alloc, "-module(m).\nf() -> ok.\n", "3:1: no main/0\n")?;
-    says(
-        &rt,
-        alloc,
-        "-export([main/0]).\nmain() -> ok.\n",
-        "3:1: no module attribute\n",
-    )
+fn functions_stand_once(rt: HostRuntime) -> Result<(), Fail> {
+    let rows = [
+        ("main() -> ok.\nmain() -> ok.", "4:1: function again"),
+        (
+            "main() -> ok.\nf() -> ok.\nmain() -> ok.",
+            "5:1: function again",
+        ),
+        ("main() -> self().\nself() -> ok.", "4:1: function again"),
+        (
+            "main() -> abs(1).\n  abs(1) -> 1; abs(X) -> X.",
+            "4:3: function again",
+        ),
+        ("main() -> ok; main(X) -> X.", "3:15: heads differ"),
+        ("main() -> ok; f() -> ok.", "3:15: heads differ"),
+        (
+            "main() -> ok.\nf(_) -> ok;\nf(_, _) -> ok;\ng(_) -> ok.",
+            "5:1: heads differ",
+        ),
+        (
+            "main() -> ok.\nf(_) -> ok; f(_) -> 1; f() -> ok.",
+            "4:24: heads differ",
+        ),
+    ];
+    all_say(&rt, rt.alloc(), &rows)
+}
+
+#[test]
+fn attributes_are_checked(rt: HostRuntime) -> Result<(), Fail> {
+    let rows = [
+        (
+            "-module(m).\n-module(m).\n-export([main/0]).\nmain() -> ok.\n",
+            "2:1: module again",
+        ),
+        (
+            "-module(m).\n-export([main/0]).\n  - module(n).\nmain() -> ok.\n",
+            "3:3: module again",
+        ),
+        (
+            "-module(m).\n-export([main/0,g/1]).\nmain() -> ok.\n",
+            "2:17: exported function missing",
+        ),
+        (
+            "-module(m).\n-export([main/0,main/1]).\nmain() -> ok.\n",
+            "2:17: exported function missing",
+        ),
+        (
+            "-module(m).\n-export([main/0]).\n",
+            "2:10: exported function missing",
+        ),
+        (
+            "-module(m).\n-export([main/0,main/170141183460469231731687303715884105727]).\nmain() -> ok.\n",
+            "2:17: exported function missing",
+        ),
+    ];
+    texts_say(&rt, rt.alloc(), &rows)
+}
+
+#[test]
+fn the_end_of_a_text_tells_what_is_missing(rt: HostRuntime) -> Result<(), Fail> {
+    let rows = [
+        ("-module(m).\nf() -> ok.\n", "3:1: no main/0"),
+        ("-module(m).\nmain() -> ok.\n", "3:1: no main/0"),
+        (
+            "-module(m).\n-export([main/1]).\nmain(X) -> X.",
+            "3:14: no main/0",
+        ),
+        (
+            "-module(m).\n-export([]).\nmain() -> ok.   ",
+            "3:17: no main/0",
+        ),
+        ("-module(m).", "1:12: no main/0"),
+        (
+            "-export([main/0]).\nmain() -> ok.\n",
+            "3:1: no module attribute",
+        ),
+        (
+            "-export([main/0]).\nmain() -> ?MODULE:main().",
+            "2:26: no module attribute",
+        ),
+        ("", "1:1: no module attribute"),
+        ("% nothing\n", "2:1: no module attribute"),
+        ("f() -> ok.", "1:11: no module attribute"),
+    ];
+    texts_say(&rt, rt.alloc(), &rows)
+}
+
+#[test]
+fn the_fault_that_starts_first_is_told(rt: HostRuntime) -> Result<(), Fail> {
+    let rows = [
+        ("main() -> X, f().", "3:11: unbound variable"),
+        ("main() -> f(X).", "3:11: undefined function"),
+        ("main() -> <<A:B>> = C.", "3:15: unbound variable"),
+        ("main() -> [X || _ <- Y].", "3:12: unbound variable"),
+        ("main() -> ok; f() -> X.", "3:15: heads differ"),
+        ("main() -> X; f() -> ok.", "3:11: unbound variable"),
+        ("main() -> X.\nmain() -> ok.", "3:11: unbound variable"),
+        (
+            "main() when self() =:= 1 -> ok.\nself() -> ok.",
+            "4:1: function again",
+        ),
+        (
+            "main() -> case 1 of Y -> <<Y/float>> end, Y.",
+            "3:28: float segment",
+        ),
+        (
+            "main() -> case 1 of Y -> Y end, Y, <<1/float>>.",
+            "3:33: unsafe variable",
+        ),
+        ("-module(n).\nmain() -> X.", "3:1: module again"),
+        (
+            "-export([f/0]).\nmain() -> m:f().",
+            "3:10: exported function missing",
+        ),
+        (
+            "main() -> m:f().\n-export([f/0]).",
+            "3:11: undefined function",
+        ),
+    ];
+    all_say(&rt, rt.alloc(), &rows)
+}
+
+#[test]
+fn at_one_place_the_order_of_causes_decides(rt: HostRuntime) -> Result<(), Fail> {
+    let rows = [
+        ("main() when f() -> ok.", "3:13: undefined function"),
+        ("main() -> <<_:(f())>> = <<1>>.", "3:16: undefined function"),
+        ("main() -> <<X/float>>.", "3:13: float segment"),
+        ("main() -> <<X:8/utf8>>.", "3:13: size on utf"),
+        (
+            "main() -> case 1 of Y -> Y end, <<Y/unit:8>>.",
+            "3:35: unit without size",
+        ),
+    ];
+    all_say(&rt, rt.alloc(), &rows)
+}
+
+#[test]
+fn the_missing_module_is_told_before_the_missing_main(rt: HostRuntime) -> Result<(), Fail> {
+    let rows = [
+        (
+            "g() -> m:g().\n-export([g/0]).\n",
+            "1:8: undefined function",
+        ),
+        (
+            "g() -> ?MODULE:g().\n-export([g/0]).\n",
+            "3:1: no module attribute",
+        ),
+    ];
+    texts_say(&rt, rt.alloc(), &rows)
 }

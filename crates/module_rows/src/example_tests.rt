@@ -1,4 +1,4 @@
-use crate::checked;
+use crate::rows::says;
 use std::test::Fail;
 
 /// The text of the example `packet`.
@@ -21,8 +21,7 @@ const BROKER: &str =
 fn the_examples_are_accepted(rt: HostRuntime) -> Result<(), Fail> {
     let alloc = rt.alloc();
     for text in [PACKET, STREAM, TRANSCODE, BROKER] {
-        let found = checked(alloc, text.as_bytes())?;
-        assert_eq!(rt; found.as_slice(), b"ok\n".as_slice());
+        says(&rt, alloc, text, "ok")?;
     }
     Ok(())
 }

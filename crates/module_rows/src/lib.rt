@@ -2,10 +2,20 @@
 #![tactic(auto)]
 
 #[cfg(test)]
+mod accept_tests;
+#[cfg(test)]
+mod built_in_tests;
+#[cfg(test)]
 mod check_tests;
 #[cfg(test)]
 mod example_tests;
 mod printing;
+#[cfg(test)]
+mod read_tests;
+#[cfg(test)]
+mod rows;
+#[cfg(test)]
+mod segment_tests;
 #[cfg(test)]
 mod tests;
 

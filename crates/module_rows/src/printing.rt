@@ -1,3 +1,6 @@
+ghost use Rattle.std.specs.Prelude.{IfOk};
+ghost use Rattle.module_rows.specs.Said.{IsSaid};
+
 use clause_read::read_module;
 use module_accept::{Refusal, accept};
 use std::alloc::{AllocError, Global};
@@ -14,7 +17,9 @@ pub fn printed(alloc: Global, text: &str) -> Result<String, AllocError> {
 }
 
 /// What the check of a text says: `ok`, or the line of its first fault.
-pub fn checked(alloc: Global, text: &[u8]) -> Result<Vec<u8>, AllocError> {
+pub fn checked(alloc: Global, text: &[u8]) -> Result<Vec<u8>, AllocError>
+    ensures { IfOk result (λ line. IsSaid text.now line.items) }
+{
     match accept(alloc, text) {
         Ok(_) => b"ok\n".to_vec(alloc),
         Err(Refusal::Line(line)) => Ok(line),

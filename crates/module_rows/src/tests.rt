@@ -302,41 +302,6 @@ fn each_pattern_is_read(rt: HostRuntime) -> Result<(), Fail> {
 }
 
 #[test]
-fn readings_are_refused_where_both_end(rt: HostRuntime) -> Result<(), Fail> {
-    let alloc = rt.alloc();
-    refused(&rt, alloc, "main() -> {_,1}.", "1:16: syntax")?;
-    refused(&rt, alloc, "main() -> f(X = 3).", "1:15: syntax")?;
-    refused(&rt, alloc, "main() -> (X = 3).", "1:18: syntax")?;
-    refused(&rt, alloc, "main() -> [1 || 2.", "1:18: syntax")?;
-    refused(&rt, alloc, "main() -> 1 ++ 2.", "1:13: syntax")?;
-    refused(&rt, alloc, "main() when f() ! 1 -> 1.", "1:17: syntax")?;
-    refused(&rt, alloc, "main() -> case 1 of X -> 1 en.", "1:28: syntax")?;
-    refused(&rt, alloc, "main() -> 1", "1:12: syntax")?;
-    Ok(())
-}
-
-#[test]
-fn segments_and_attributes_are_refused_at_their_words(rt: HostRuntime) -> Result<(), Fail> {
-    let alloc = rt.alloc();
-    refused(
-        &rt,
-        alloc,
-        "main() -> <<1/foo>>.",
-        "1:15: unknown segment type",
-    )?;
-    refused(&rt, alloc, "main() -> <<1/unit>>.", "1:19: syntax")?;
-    refused(
-        &rt,
-        alloc,
-        "main() -> <<X/foo>> = 1.",
-        "1:15: unknown segment type",
-    )?;
-    refused(&rt, alloc, "-foo(x).", "1:2: unknown attribute")?;
-    refused(&rt, alloc, "main() -> 1.5.", "1:11: float")?;
-    Ok(())
-}
-
-#[test]
 fn a_chain_too_many_is_too_deep(rt: HostRuntime) -> Result<(), Fail> {
     let alloc = rt.alloc();
     let mut text = String::from_str(alloc, "main() -> 1")?;
