@@ -5,11 +5,14 @@ use Rattle.std.specs.Fmt.{signed_decimal}
 use Rattle.std.proofs.lemmas.Fmt.{decimal_injective}
 use Rattle.std.proofs.lemmas.List.Folds.{flat_map-map}
 use Rattle.std.specs.Io.KnownBytes.{Consumes, IsAtEnd}
-use Rattle.bits_top.specs.Answer.{Port, Untouched, IsAccepted, IsRefusedText, IsRefusedWith, IsUnaccepted, IsWhole, IsStraightRun, AnswersRefusal, AnswersAccepted, AnswersRun, AnswersCheck, AnswersOk, CantRun, ChecksWell, IsToldWell, IsSmooth, IsSmoothRefusal, IsDoneOrNoMemory, IsRefusedOrNoMemory, text_limit}
+use Rattle.bits_top.specs.Answer.{Port, Untouched, IsAccepted, IsRefusedText, IsRefusedWith, IsUnaccepted, IsTable, IsWhole, AnswersRefusal, AnswersAccepted, AnswersRun, AnswersCheck, AnswersOk, CantRun, ChecksWell, IsToldWell, IsSmooth, IsSmoothRefusal, IsDoneOrNoMemory, IsRefusedOrNoMemory, text_limit}
 use Rattle.bits_top.specs.Command.{Spells, SpellsCheck, SpellsRun}
 use Rattle.bits_top.specs.declared.command.Command.{Command}
 use Rattle.bits_top.specs.declared.command.Command.TheVariants as made
-use Rattle.bits_top.specs.Form.{IsForm}
+use Rattle.erl_syntax.specs.Atoms.{fixed_atoms}
+use Rattle.first_form.specs.TreeOf.{IsForm}
+use Rattle.first_form.specs.Numbers.{StandOnce}
+use Rattle.bits_top.proofs.StraightRuns.{IsStraightRun}
 use Rattle.erl_syntax.specs.declared.module.Module.{Module}
 use Rattle.module_accept.specs.Accepting.{Accepts, IsDue}
 use Rattle.module_accept.specs.Outcome.{Refuses}
@@ -22,7 +25,7 @@ use Rattle.bits_top.specs.Runs.{HasRun, end_of}
 use Rattle.bits_top.specs.Texts.{order_text, processes_text, machine_text}
 use Rattle.bits_top.specs.Value.{value_text, VInt}
 use Rattle.bits_top.specs.declared.command.Run.{Run}
-use Rattle.bits_top.specs.declared.form.Straight.{Straight}
+use Rattle.first_form.specs.declared.form.Straight.{Straight}
 use Rattle.bits_top.specs.declared.run.Outcome.{Outcome}
 use Rattle.bits_top.specs.declared.status.Status.{Status}
 use Rattle.bits_top.specs.declared.status.Status.TheVariants.{Done, Refused, Usage, ReadFault, ReportFault, OrderFault, NoMemory, BadOrder}
@@ -53,19 +56,19 @@ refusal_answers OrderFault reductions text line source report order read same h 
 refusal_answers NoMemory reductions text line source report order read same h = tt
 refusal_answers BadOrder reductions text line source report order read same h = h
 
-pub accepted_answers : (status : Status) (reductions : ℕ) (text : List ℕ) (straight : Straight) (source report order : Port) → IsAccepted source text straight →
-    AnswersAccepted reductions straight status report order → AnswersRun reductions status source report order
-accepted_answers Done reductions text straight source report order read h =
-    record { text = text; straight = straight; read = read; order_text = h.order_text; report_text = h.report_text; run = h.run; ordered = h.ordered; reported = h.reported }
-accepted_answers OrderFault reductions text straight source report order read h =
-    record { text = text; straight = straight; read = read; order_text = h.order_text; report_text = h.report_text; run = h.run; fault = h.fault; ordered = h.ordered; reported = h.reported }
-accepted_answers ReportFault reductions text straight source report order read h =
-    inl (record { text = text; straight = straight; read = read; order_text = h.order_text; report_text = h.report_text; run = h.run; ordered = h.ordered; fault = h.fault; reported = h.reported })
-accepted_answers Refused reductions text straight source report order read h = absurd h
-accepted_answers Usage reductions text straight source report order read h = h
-accepted_answers ReadFault reductions text straight source report order read h = absurd h
-accepted_answers NoMemory reductions text straight source report order read h = tt
-accepted_answers BadOrder reductions text straight source report order read h = h
+pub accepted_answers : (status : Status) (reductions : ℕ) (text : List ℕ) (tree : Module) (source report order : Port) → (read : IsAccepted source text tree) → IsTable tree.atoms →
+    AnswersAccepted reductions read.straight status report order → AnswersRun reductions status source report order
+accepted_answers Done reductions text tree source report order read table h =
+    record { text = text; tree = tree; read = read; order_text = h.order_text; report_text = h.report_text; run = h.run tree read.form.tree table; ordered = h.ordered; reported = h.reported }
+accepted_answers OrderFault reductions text tree source report order read table h =
+    record { text = text; tree = tree; read = read; order_text = h.order_text; report_text = h.report_text; run = h.run tree read.form.tree table; fault = h.fault; ordered = h.ordered; reported = h.reported }
+accepted_answers ReportFault reductions text tree source report order read table h =
+    inl (record { text = text; tree = tree; read = read; order_text = h.order_text; report_text = h.report_text; run = h.run tree read.form.tree table; ordered = h.ordered; fault = h.fault; reported = h.reported })
+accepted_answers Refused reductions text tree source report order read table h = absurd h
+accepted_answers Usage reductions text tree source report order read table h = h
+accepted_answers ReadFault reductions text tree source report order read table h = absurd h
+accepted_answers NoMemory reductions text tree source report order read table h = tt
+accepted_answers BadOrder reductions text tree source report order read table h = h
 
 -- what was read to the end is all that the source held
 pub held_whole : (before after : Option (List ℕ)) (bytes : List ℕ) → Consumes before after bytes → IsAtEnd after → IfSome before (λ held. held ≡ bytes)
@@ -141,12 +144,27 @@ refused_is source held line text told h = elim h [
   | inr w ↦ (let e : text ≡ held = same_text source.before held text told w.whole.held in inr (inr (rw e w.none)))
 ]
 
-not_both : (text : List ℕ) (m : Module) (straight : Straight) → length text ≤ text_limit → Accepts text m → IsForm text straight → CantRun text → ⊥
+-- what was found of a text and a module holds of the same two
+pub form_of : (seen bytes : List ℕ) (shown tree : Module) (straight : Straight) → seen ≡ bytes → shown ≡ tree → IsForm seen shown straight → IsForm bytes tree straight
+form_of seen bytes shown tree straight s t form =
+    let P : List ℕ → Type 0 = λ v. IsForm v shown straight in
+    let Q : Module → Type 0 = λ m. IsForm bytes m straight in
+    subst Q t (subst P s form)
+
+pub only_of : (seen bytes : List ℕ) (tree : Module) → seen ≡ bytes → ((other : Module) → Accepts seen other → other ≡ tree) → (other : Module) → Accepts bytes other → other ≡ tree
+only_of seen bytes tree s only = let P : List ℕ → Type 0 = λ v. (other : Module) → Accepts v other → other ≡ tree in subst P s only
+
+-- a text has one accepted module, so none of its modules has the form where this one hasn't
+pub none_built : (text : List ℕ) (tree : Module) → ((other : Module) → Accepts text other → other ≡ tree) → ((straight : Straight) → IsForm text tree straight → ⊥) →
+    (m : Module) (straight : Straight) → Accepts text m → IsForm text m straight → ⊥
+none_built text tree only none m straight a form = none straight (let P : Module → Type 0 = λ t. IsForm text t straight in subst P (only m a) form)
+
+not_both : (text : List ℕ) (m : Module) (straight : Straight) → length text ≤ text_limit → Accepts text m → IsForm text m straight → CantRun text → ⊥
 not_both text m straight short a form h = elim h [
   | inl long ↦ omega (arith, long, short)
   | inr w ↦ elim w [
     | inl none ↦ none m a
-    | inr none ↦ none straight form
+    | inr none ↦ none m straight a form
   ]
 ]
 
@@ -163,13 +181,13 @@ smooth_done ReportFault reductions source report order h s = elim h [
 smooth_done OrderFault reductions source report order h s = absurd (s.well.order_well h.fault)
 smooth_done BadOrder reductions source report order h s = absurd h
 
-accepted_not : (source : Port) (held text : List ℕ) (straight : Straight) → source.before ≡ Some text → IsAccepted source held straight → CantRun text → ⊥
-accepted_not source held text straight told read h =
+accepted_not : (source : Port) (held text : List ℕ) (tree : Module) → source.before ≡ Some text → IsAccepted source held tree → CantRun text → ⊥
+accepted_not source held text tree told read h =
     let e : text ≡ held = same_text source.before held text told read.whole.held in
-    not_both text read.tree straight (rw e read.whole.short) (rw e read.whole.accepts) (rw e read.form) h
+    not_both text tree read.straight (rw e read.whole.short) (rw e read.whole.accepts) (rw e read.form) h
 
 pub smooth_refused : (status : Status) (reductions : ℕ) (source report order : Port) → AnswersRun reductions status source report order → IsSmoothRefusal source report order → IsRefusedOrNoMemory status
-smooth_refused Done reductions source report order h s = absurd (accepted_not source h.text s.text h.straight s.told h.read s.refused)
+smooth_refused Done reductions source report order h s = absurd (accepted_not source h.text s.text h.tree s.told h.read s.refused)
 smooth_refused NoMemory reductions source report order h s = inr refl
 smooth_refused Refused reductions source report order h s = inl refl
 smooth_refused Usage reductions source report order h s = absurd h

@@ -10,12 +10,12 @@ use Rattle.bits_value.proofs.BitLists.{natural-lt}
 use Rattle.bits_value.specs.Number.{natural, bounded, spell}
 use Rattle.bits_value.specs.declared.Endian.TheVariants.{Big}
 use Rattle.bits_top.specs.Body.{segments}
-use Rattle.bits_top.specs.Form.{part_size}
-use Rattle.bits_top.specs.Runs.{parts_bits, fields_bits, bounds, known}
+use Rattle.first_form.specs.Form.{part_size, parts_bits}
+use Rattle.bits_top.specs.Runs.{fields_bits, bounds, known}
 use Rattle.bits_top.specs.Tree.{Bound, Target, matched_bits, built, Yes}
 use Rattle.bits_top.specs.Value.{VInt}
-use Rattle.bits_top.specs.declared.form.Field.{Field}
-use Rattle.bits_top.specs.declared.form.Part.{Part}
+use Rattle.first_form.specs.declared.form.Field.{Field}
+use Rattle.first_form.specs.declared.form.Part.{Part}
 use Rattle.bits_top.specs.declared.matching.Binding.{Binding}
 
 pub take_next : {X : Type 0} (xs : List X) (i : ℕ) (d : X) → i < length xs → take (i + 1) xs ≡ take i xs ++ slice_index_or xs i d ∷ []

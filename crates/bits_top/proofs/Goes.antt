@@ -7,8 +7,8 @@ use Rattle.bits_top.specs.Tree as tree
 use Rattle.bits_top.specs.Local.{Code, Ask, Show, Goes, Falls, Asks, step, Course, At, Fell, Local, spent, Outcome, Wants, EndsDone, EndsRaised, Unfinished, walk, outcome_in, ask_of, size_of, of_match}
 use Rattle.bits_top.specs.Body.{segments, pattern, body}
 use Rattle.bits_top.specs.Asks.{standing, resting, displays, matches, goes}
-use Rattle.bits_top.specs.declared.form.Item.{Item}
-use Rattle.bits_top.specs.declared.form.Item.TheVariants.{Match, Display}
+use Rattle.first_form.specs.declared.form.Item.{Item}
+use Rattle.first_form.specs.declared.form.Item.TheVariants.{Match, Display}
 
 -- putting in twice
 

@@ -2,14 +2,13 @@ pub mod Answers
 pub mod Binding
 pub mod Ended
 pub mod Goes
-pub mod ReadingItems
 pub mod Runs
 pub mod SameAsks
 pub mod SameMatch
 pub mod SamePut
+pub mod SameRead
 pub mod SameRuns
 pub mod SameWalks
-pub mod Sizes
-pub mod Spelling
+pub mod StraightRuns
 pub mod Words
 pub mod Written

@@ -8,17 +8,17 @@ use Rattle.bits_top.specs.Tree.{Bound, built, Call, value_in}
 use Rattle.bits_top.specs.Local.{Local, Show, Wants, ask_of}
 use Rattle.bits_top.specs.Machine.{Running, Over, Left, Machine, apply, after, Legal, IsLegal, first_of}
 use Rattle.bits_top.specs.Body.{segments, code_of}
-use Rattle.bits_top.specs.Form.{AreItems}
+use Rattle.first_form.specs.Form.{AreItems}
 use Rattle.bits_top.specs.Asks.{standing, resting, displays, matches, goes}
 use Rattle.bits_top.specs.Runs.{Runs, Stands, Binds, Advances, Finishes, HasRun, start, with_one, bounds, known, asks_end, end_of}
 use Rattle.bits_top.proofs.Goes.{asks_resting, asks_first}
 use Rattle.bits_top.specs.declared.entry.Entry.{Entry}
 use Rattle.bits_top.specs.declared.entry.Entry.TheVariants.{Shown, Ended, Gone}
-use Rattle.bits_top.specs.declared.form.Item.{Item}
-use Rattle.bits_top.specs.declared.form.Item.TheVariants.{Match, Display}
-use Rattle.bits_top.specs.declared.form.Field.{Field}
-use Rattle.bits_top.specs.declared.form.Part.{Part}
-use Rattle.bits_top.specs.declared.form.Straight.{Straight}
+use Rattle.first_form.specs.declared.form.Item.{Item}
+use Rattle.first_form.specs.declared.form.Item.TheVariants.{Match, Display}
+use Rattle.first_form.specs.declared.form.Field.{Field}
+use Rattle.first_form.specs.declared.form.Part.{Part}
+use Rattle.first_form.specs.declared.form.Straight.{Straight}
 use Rattle.bits_top.specs.declared.matching.Binding.{Binding}
 use Rattle.bits_top.specs.declared.run.Ending.{Ending}
 use Rattle.bits_top.specs.declared.run.Ending.TheVariants as ending

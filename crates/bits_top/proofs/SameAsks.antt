@@ -1,10 +1,12 @@
 -- What a process of today's form asks for next, and that it asks for the same in the whole language.
-use Rattle.std.proofs.Common.{◌≡◌, ℕ, ℤ, pos, suc, zero, ◌+◌, ◌≤◌, ◌<◌, List, [], ◌∷◌, ◌++◌, length, map, drop, Bool, true, false, cond, nat_eq, Option, Some, All, refl, sym, ap, subst, ◌∙◌, arith, append-nil, slice_index_or, codes}
-use Rattle.std.proofs.lemmas.Bool.Decides.{nat_tests}
+use Rattle.std.proofs.Common.{◌≡◌, ◌⊎◌, inl, inr, ℕ, ℤ, pos, suc, zero, ◌<◌, List, [], ◌∷◌, ◌++◌, length, map, drop, Bool, true, false, cond, nat_eq, Option, Some, All, refl, sym, ap, subst, ◌∙◌, arith, append_assoc, append-nil, slice_index_or, codes}
+use Rattle.std.specs.List.{Contains, flat_map}
+use Rattle.std.proofs.lemmas.Bool.Decides.{nat_tests, eqb_tells}
+use Rattle.std.proofs.lemmas.List.Concat.{flat_map-cons}
 use Rattle.std.proofs.lemmas.List.Elements.{All-tail}
 use Rattle.erl_syntax.specs.Atoms.{a_reductions}
 use Rattle.term_value.specs.Value.{Value, VInt, VAtom}
-use Rattle.term_value.specs.Tree.{Bound, Tree, Val, First, Then, no_pattern}
+use Rattle.term_value.specs.Tree.{Tree, Val, First, Then, no_pattern}
 use Rattle.term_value.specs.PutIn.{value_in, put_in}
 use Rattle.term_value.specs.Read.{body}
 use Rattle.term_value.specs.Step.{Show}
@@ -14,14 +16,14 @@ use Rattle.bits_top.specs.Tree as own_tree
 use Rattle.bits_top.specs.Local as own_local
 use Rattle.bits_top.specs.Body as own_body
 use Rattle.bits_top.specs.Asks as own_asks
-use Rattle.bits_top.specs.Form.{IsMatch, AreItems}
-use Rattle.bits_top.specs.Runs.{IsShort, fields_bits, bounds, known}
-use Rattle.bits_top.specs.Whole.{number_of, lines}
-use Rattle.bits_top.proofs.SameMatch.{built_length, decoded, numbered, Below, own_taken}
-use Rattle.bits_top.specs.declared.form.Field.{Field}
-use Rattle.bits_top.specs.declared.form.Part.{Part}
-use Rattle.bits_top.specs.declared.form.Item.{Item}
-use Rattle.bits_top.specs.declared.form.Item.TheVariants.{Match, Display}
+use Rattle.first_form.specs.Form.{IsMatch, AreItems, bound_by, IsShort}
+use Rattle.bits_top.specs.Runs.{fields_bits, bounds, known}
+use Rattle.first_form.specs.Whole.{line}
+use Rattle.bits_top.proofs.SameMatch.{built_length, decoded, numbered, Apart, Within, head_of, behind, apart_front, differ, own_taken}
+use Rattle.first_form.specs.declared.form.Field.{Field}
+use Rattle.first_form.specs.declared.form.Part.{Part}
+use Rattle.first_form.specs.declared.form.Item.{Item}
+use Rattle.first_form.specs.declared.form.Item.TheVariants.{Match, Display}
 use Rattle.bits_top.specs.declared.matching.Binding.{Binding}
 
 -- what is due next before items: the end, the end for want of reductions, or a display with what comes after it
@@ -43,11 +45,15 @@ due bs [] left = finished
 due bs (Match fields ps ∷ items) left = due (bs ++ decoded fields (own_tree.built (own_body.segments ps))) items left
 due bs (Display x ∷ items) left = due_display (value_of bs x) bs items left
 
+-- the variables that have values before these items, and those that get one in them, have different numbers
+abbrev pub AllApart : (ℕ → ℕ) → List Binding → List Item → Type 0
+AllApart number bs items = Apart number (known bs ++ flat_map bound_by items)
+
 -- the items after a display fit its bindings
-abbrev pub Fits : Due → Type 0
-Fits finished = Unit {0}
-Fits exhausted = Unit {0}
-Fits (displaying n bs items left) = AreItems (known bs) items × All IsShort items
+abbrev pub Fits : (ℕ → ℕ) → Due → Type 0
+Fits number finished = Unit {0}
+Fits number exhausted = Unit {0}
+Fits number (displaying n bs items left) = AreItems (known bs) items × All IsShort items × AllApart number bs items
 
 abbrev pub own_of : Due → own_local.Outcome
 own_of finished = own_local.EndsDone
@@ -58,17 +64,17 @@ own_of (displaying n bs items left) = own_local.Wants (own_local.Show (own.VInt 
 abbrev pub standing : ℕ → Tree → Local
 standing left t = record { pid = 1; course = At t; seen = []; left = left }
 
-abbrev pub open_body : List Binding → List Item → Tree
-open_body bs items = put_in (numbered 0 bs) (body (lines (known bs) items))
+abbrev pub open_body : (ℕ → ℕ) → List Binding → List Item → Tree
+open_body number bs items = put_in (numbered number bs) (body (map (line number) items))
 
-abbrev pub resting : List Binding → List Item → Value → Tree
-resting bs [] answer = Val answer
-resting bs (item ∷ items) answer = First (Val answer) (Then no_pattern (open_body bs (item ∷ items)))
+abbrev pub resting : (ℕ → ℕ) → List Binding → List Item → Value → Tree
+resting number bs [] answer = Val answer
+resting number bs (item ∷ items) answer = First (Val answer) (Then no_pattern (open_body number bs (item ∷ items)))
 
-abbrev pub whole_of : Due → Outcome
-whole_of finished = EndsDone
-whole_of exhausted = EndsRaised (VAtom a_reductions)
-whole_of (displaying n bs items left) = Wants (Show (VInt n)) (λ answer. standing left (resting bs items answer))
+abbrev pub whole_of : (ℕ → ℕ) → Due → Outcome
+whole_of number finished = EndsDone
+whole_of number exhausted = EndsRaised (VAtom a_reductions)
+whole_of number (displaying n bs items left) = Wants (Show (VInt n)) (λ answer. standing left (resting number bs items answer))
 
 -- bindings
 
@@ -84,22 +90,35 @@ bounds_more : (bs others : List Binding) → bounds bs ++ bounds others ≡ boun
 bounds_more [] others = refl
 bounds_more (b ∷ bs) others = ap (λ l. record { variable = b.variable; value = own.VInt b.value } ∷ l) (bounds_more bs others)
 
-pub known_length : (bs : List Binding) → length (known bs) ≡ length bs
-known_length [] = refl
-known_length (b ∷ bs) = ap suc (known_length bs)
+-- only known variables have values
+pub within_known : (number : ℕ → ℕ) (bs : List Binding) → Within number (known bs) (numbered number bs)
+within_known number [] = λ x free. refl
+within_known number (b ∷ bs) = λ x free.
+    let t : nat_eq (number b.variable) x ≡ false = differ (number b.variable) x (free b.variable (head_of b.variable (known bs))) in
+    rw t (within_known number bs x (λ a there e. free a (behind b.variable a (known bs) there) e))
 
-pub numbered_more : (number place : ℕ) (bs others : List Binding) → place ≡ number + length bs → numbered number bs ++ numbered place others ≡ numbered number (bs ++ others)
-numbered_more number place [] others e = ap (λ n. numbered n others) (omega (arith, e))
-numbered_more number place (b ∷ bs) others e = ap (λ l. record { variable = number; value = VInt b.value } ∷ l) (numbered_more (suc number) place bs others (omega (arith, e)))
+-- the variables stay apart when a match has given its values
+pub apart_matched : (number : ℕ → ℕ) (bs : List Binding) (fields : List Field) (ps : List Part) (bits : List Bool) (items : List Item) → AllApart number bs (Match fields ps ∷ items) →
+    AllApart number (bs ++ decoded fields bits) items
+apart_matched number bs fields ps bits items h =
+    let names : List ℕ = map (λ field. field.variable) fields in
+    let all : known bs ++ flat_map bound_by (Match fields ps ∷ items) ≡ known (bs ++ decoded fields bits) ++ flat_map bound_by items =
+    ap (λ more. known bs ++ more) (flat_map-cons bound_by (Match fields ps) items)
+    ∙ sym (append_assoc (known bs) names (flat_map bound_by items))
+    ∙ ap (λ front. front ++ flat_map bound_by items) (sym (known_more bs fields bits)) in
+    subst (λ all_names. Apart number all_names) all h
 
-below : (number place : ℕ) (bs : List Binding) → number + length bs ≤ place → Below place (numbered number bs)
-below number place [] h = λ x le. refl
-below number place (b ∷ bs) h = λ x le.
-    let t : nat_eq number x ≡ false = grind (arith, nat_tests) in
-    rw t (below (suc number) place bs (omega (arith, h)) x le)
+pub apart_displayed : (number : ℕ → ℕ) (bs : List Binding) (x : ℕ) (items : List Item) → AllApart number bs (Display x ∷ items) → AllApart number bs items
+apart_displayed number bs x items h = subst (λ more. Apart number (known bs ++ more)) (flat_map-cons bound_by (Display x) items) h
 
-pub all_below : (bs : List Binding) → Below (length (known bs)) (numbered 0 bs)
-all_below bs = below 0 (length (known bs)) bs (omega (arith, known_length bs))
+-- those of a match and the known ones
+pub apart_fields : (number : ℕ → ℕ) (bs : List Binding) (fields : List Field) (ps : List Part) (items : List Item) → AllApart number bs (Match fields ps ∷ items) →
+    Apart number (known bs ++ map (λ field. field.variable) fields)
+apart_fields number bs fields ps items h =
+    let names : List ℕ = map (λ field. field.variable) fields in
+    let all : known bs ++ flat_map bound_by (Match fields ps ∷ items) ≡ (known bs ++ names) ++ flat_map bound_by items =
+    ap (λ more. known bs ++ more) (flat_map-cons bound_by (Match fields ps) items) ∙ sym (append_assoc (known bs) names (flat_map bound_by items)) in
+    apart_front number (known bs ++ names) (flat_map bound_by items) (subst (λ all_names. Apart number all_names) all h)
 
 -- the value of a variable that has one
 
@@ -115,27 +134,27 @@ own_found (b ∷ bs) x zero h e =
 own_found (b ∷ bs) x (suc j) h e =
     own_by (nat_eq b.variable x) b.value (value_of bs x) (own_tree.value_in (bounds bs) x) (λ f. own_found bs x j (omega (arith, h)) e)
 
-number_from : (number : ℕ) (names : List ℕ) (x : ℕ) → number ≤ number_of number names x
-number_from number [] x = omega arith
-number_from number (name ∷ names) x = by_test (nat_eq name x) number (number_of (suc number) names x) (omega (arith, number_from (suc number) names x)) where
-  by_test : (t : Bool) (m n : ℕ) → m ≤ n → m ≤ cond t m n
-  by_test true m n h = omega arith
-  by_test false m n h = h
+same_test : (number : ℕ → ℕ) (a b : ℕ) → (number a ≡ number b → a ≡ b) → nat_eq (number a) (number b) ≡ nat_eq a b
+same_test number a b h = by_cases (eqb_tells a b) where
+  by_cases : ((nat_eq a b ≡ true) × (a ≡ b)) ⊎ ((nat_eq a b ≡ false) × (a ≡ b → ⊥)) → nat_eq (number a) (number b) ≡ nat_eq a b
+  by_cases (inl (t, e)) = let u : nat_eq (number b) (number b) ≡ true = grind (arith, nat_tests) in rw (e, u) (sym (subst (λ c. nat_eq c b ≡ true) e t))
+  by_cases (inr (t, n)) = differ (number a) (number b) (λ e. n (h e)) ∙ sym t
 
-found_by : (t : Bool) (number m : ℕ) (v n : ℤ) (later : List Bound) → suc number ≤ m → (t ≡ false → value_in later m ≡ Some (VInt n)) →
-    value_in (record { variable = number; value = VInt v } ∷ later) (cond t number m) ≡ Some (VInt (cond t v n))
-found_by true number m v n later le h = let t : nat_eq number number ≡ true = grind (arith, nat_tests) in rw t refl
-found_by false number m v n later le h = let t : nat_eq number m ≡ false = grind (arith, nat_tests) in rw t (h refl)
+pub not_first : (name x : ℕ) (names : List ℕ) → Contains (name ∷ names) x → nat_eq name x ≡ false → Contains names x
+not_first name x names (zero, h, e) f = let t : nat_eq name x ≡ true = grind (arith, nat_tests, e) in let c = sym t ∙ f in cc
+not_first name x names (suc j, h, e) f = (j, omega (arith, h), e)
 
-pub found : (number : ℕ) (bs : List Binding) (x j : ℕ) → j < length (known bs) → slice_index_or (known bs) j x ≡ x →
-    value_in (numbered number bs) (number_of number (known bs) x) ≡ Some (VInt (value_of bs x))
-found number [] x j h e = absurd (omega (arith, h))
-found number (b ∷ bs) x zero h e =
-    let t : nat_eq b.variable x ≡ true = grind (arith, nat_tests, e) in
-    found_by (nat_eq b.variable x) number (number_of (suc number) (known bs) x) b.value (value_of bs x) (numbered (suc number) bs) (number_from (suc number) (known bs) x) (λ f. let c = sym t ∙ f in cc)
-found number (b ∷ bs) x (suc j) h e =
-    found_by (nat_eq b.variable x) number (number_of (suc number) (known bs) x) b.value (value_of bs x) (numbered (suc number) bs) (number_from (suc number) (known bs) x)
-    (λ f. found (suc number) bs x j (omega (arith, h)) e)
+found_by : (t : Bool) (v n : ℤ) (o : Option Value) → (t ≡ false → o ≡ Some (VInt n)) → cond t (Some (VInt v)) o ≡ Some (VInt (cond t v n))
+found_by true v n o h = refl
+found_by false v n o h = h refl
+
+-- the value of a known variable
+pub found : (number : ℕ → ℕ) (bs : List Binding) (x : ℕ) → Contains (known bs) x → Apart number (known bs) → value_in (numbered number bs) (number x) ≡ Some (VInt (value_of bs x))
+found number [] x (j, h, e) apart = absurd (omega (arith, h))
+found number (b ∷ bs) x (j, h, e) apart =
+    let test : nat_eq (number b.variable) (number x) ≡ nat_eq b.variable x = same_test number b.variable x (apart b.variable x (head_of b.variable (known bs)) (j, h, e)) in
+    let later : Apart number (known bs) = λ c d there here same. apart c d (behind b.variable c (known bs) there) (behind b.variable d (known bs) here) same in
+    rw test (found_by (nat_eq b.variable x) b.value (value_of bs x) (value_in (numbered number bs) (number x)) (λ f. found number bs x (not_first b.variable x (known bs) (j, h, e) f) later))
 
 -- today's machine
 
@@ -159,10 +178,12 @@ own_goes (Match fields ps ∷ items) bs left h =
 own_goes (Display x ∷ items) bs left h =
     own_display (own_tree.value_in (bounds bs) x) (value_of bs x) bs items left (own_found bs x h.0.0 h.0.1 h.0.2)
 
-pub due_fits : (items : List Item) (bs : List Binding) (left : ℕ) → AreItems (known bs) items → All IsShort items → Fits (due bs items left)
-due_fits [] bs left h s = tt
-due_fits (Match fields ps ∷ items) bs left h s =
+pub due_fits : (number : ℕ → ℕ) (items : List Item) (bs : List Binding) (left : ℕ) → AreItems (known bs) items → All IsShort items → AllApart number bs items → Fits number (due bs items left)
+due_fits number [] bs left h s apart = tt
+due_fits number (Match fields ps ∷ items) bs left h s apart =
     let bits : List Bool = own_tree.built (own_body.segments ps) in
-    due_fits items (bs ++ decoded fields bits) left (subst (λ names. AreItems names items) (sym (known_more bs fields bits)) h.1) (All-tail IsShort (Match fields ps) items s)
-due_fits (Display x ∷ items) bs zero h s = tt
-due_fits (Display x ∷ items) bs (suc left) h s = (subst (λ names. AreItems names items) (append-nil (known bs)) h.1, All-tail IsShort (Display x) items s)
+    due_fits number items (bs ++ decoded fields bits) left (subst (λ names. AreItems names items) (sym (known_more bs fields bits)) h.1) (All-tail IsShort (Match fields ps) items s)
+    (apart_matched number bs fields ps bits items apart)
+due_fits number (Display x ∷ items) bs zero h s apart = tt
+due_fits number (Display x ∷ items) bs (suc left) h s apart =
+    (subst (λ names. AreItems names items) (append-nil (known bs)) h.1, All-tail IsShort (Display x) items s, apart_displayed number bs x items apart)

@@ -1,10 +1,11 @@
 -- Bits built and matched in a module of today's form: the same in the whole language.
-use Rattle.std.proofs.Common.{◌≡◌, ℕ, pos, suc, ◌+◌, ◌*◌, ◌≤◌, List, [], ◌∷◌, ◌++◌, length, take, drop, map, Bool, true, false, cond, nat_eq, nat_le, Option, Some, None, All, refl, sym, ap, ◌∙◌, arith, append_assoc, append-nil, length-append, length-drop}
+use Rattle.std.proofs.Common.{◌≡◌, ℕ, pos, suc, ◌+◌, ◌*◌, ◌≤◌, List, [], ◌∷◌, ◌++◌, length, take, drop, map, Bool, true, false, cond, nat_eq, nat_le, Option, Some, None, All, refl, sym, ap, subst, ◌∙◌, arith, append_assoc, append-nil, length-append, length-drop}
 use Rattle.std.proofs.lemmas.Bool.Decides.{nat_tests}
 use Rattle.std.proofs.lemmas.List.{length-take-le}
 use Rattle.std.proofs.lemmas.List.Concat.{flat_map-cons}
 use Rattle.std.proofs.lemmas.List.Sums.{sum_by-cons}
-use Rattle.std.proofs.lemmas.List.Elements.{All-head, All-tail}
+use Rattle.std.specs.List.{Contains}
+use Rattle.std.proofs.lemmas.List.Elements.{All-head, All-tail, Contains-append_left, Contains-append_right}
 use Rattle.bits_value.specs.Number.{natural, spell}
 use Rattle.bits_value.specs.declared.Sign.TheVariants.{Unsigned}
 use Rattle.bits_value.specs.declared.Endian.TheVariants.{Big}
@@ -25,12 +26,12 @@ use Rattle.term_value.specs.Machine.{value_trees}
 use Rattle.bits_top.specs.Value as own
 use Rattle.bits_top.specs.Tree as own_tree
 use Rattle.bits_top.specs.Body as own_body
-use Rattle.bits_top.specs.Form.{part_size, IsField}
-use Rattle.bits_top.specs.Runs.{parts_bits, fields_bits, bounds}
-use Rattle.bits_top.specs.Whole.{field_pieces, size_read, part_piece}
+use Rattle.first_form.specs.Form.{part_size, IsField, AreNew, parts_bits}
+use Rattle.bits_top.specs.Runs.{fields_bits, bounds}
+use Rattle.first_form.specs.Whole.{field_pieces, size_read, part_piece}
 use Rattle.bits_top.proofs.Binding.{narrow_some, targets}
-use Rattle.bits_top.specs.declared.form.Field.{Field}
-use Rattle.bits_top.specs.declared.form.Part.{Part}
+use Rattle.first_form.specs.declared.form.Field.{Field}
+use Rattle.first_form.specs.declared.form.Part.{Part}
 use Rattle.bits_top.specs.declared.matching.Binding.{Binding}
 
 le_true : (m n : ℕ) → m ≤ n → nat_le m n ≡ true
@@ -110,14 +111,29 @@ abbrev pub decoded : List Field → List Bool → List Binding
 decoded [] bits = []
 decoded (field ∷ fields) bits = record { variable = field.variable; value = pos (natural (take field.bits bits)) } ∷ decoded fields (drop field.bits bits)
 
--- the values of variables that are numbered from a number on
-abbrev pub numbered : ℕ → List Binding → List Bound
-numbered number [] = []
-numbered number (binding ∷ bindings) = record { variable = number; value = VInt binding.value } ∷ numbered (suc number) bindings
+-- the values of variables with these numbers
+abbrev pub numbered : (ℕ → ℕ) → List Binding → List Bound
+numbered number bindings = map (λ b. record { variable = number b.variable; value = VInt b.value }) bindings
 
--- no variable from a number on has a value
-abbrev pub Below : ℕ → List Bound → Type 0
-Below number acc = (x : ℕ) → number ≤ x → value_in acc x ≡ None
+-- different names of these have different numbers
+abbrev pub Apart : (ℕ → ℕ) → List ℕ → Type 0
+Apart number names = (a b : ℕ) → Contains names a → Contains names b → number a ≡ number b → a ≡ b
+
+-- only numbers of these names have a value
+abbrev pub Within : (ℕ → ℕ) → List ℕ → List Bound → Type 0
+Within number names acc = (x : ℕ) → ((a : ℕ) → Contains names a → number a ≡ x → ⊥) → value_in acc x ≡ None
+
+pub head_of : (name : ℕ) (names : List ℕ) → Contains (name ∷ names) name
+head_of name names = (0, omega arith, refl)
+
+pub behind : (name other : ℕ) (names : List ℕ) → Contains names other → Contains (name ∷ names) other
+behind name other names h = (suc h.0, omega (arith, h.1), h.2)
+
+pub apart_front : (number : ℕ → ℕ) (names others : List ℕ) → Apart number (names ++ others) → Apart number names
+apart_front number names others h = λ a b there here same. h a b (Contains-append_left names others a there) (Contains-append_left names others b here) same
+
+pub differ : (m n : ℕ) → (m ≡ n → ⊥) → nat_eq m n ≡ false
+differ m n h = grind (arith, nat_tests)
 
 none_by : (t : Bool) (v : Value) (o p q : Option Value) → cond t (Some v) o ≡ None → (o ≡ None → p ≡ q) → cond t (Some v) p ≡ q
 none_by true v o p q h g = cc
@@ -127,10 +143,24 @@ none_then : (acc later : List Bound) (x : ℕ) → value_in acc x ≡ None → v
 none_then [] later x h = refl
 none_then (b ∷ acc) later x h = none_by (nat_eq b.variable x) b.value (value_in acc x) (value_in (acc ++ later) x) (value_in later x) h (none_then acc later x)
 
-pub below_more : (number : ℕ) (acc : List Bound) (v : Value) → Below number acc → Below (suc number) (acc ++ record { variable = number; value = v } ∷ [])
-below_more number acc v h = λ x le.
-    let t : nat_eq number x ≡ false = grind (arith, nat_tests) in
-    none_then acc (record { variable = number; value = v } ∷ []) x (h x (omega (arith, le))) ∙ ap (λ b. cond b (Some v) None) t
+within_wider : (number : ℕ → ℕ) (names : List ℕ) (acc : List Bound) (name : ℕ) → Within number names acc → Within number (names ++ name ∷ []) acc
+within_wider number names acc name h = λ x free. h x (λ a there e. free a (Contains-append_left names (name ∷ []) a there) e)
+
+within_more : (number : ℕ → ℕ) (names : List ℕ) (acc : List Bound) (name : ℕ) (v : Value) → Within number names acc →
+    Within number (names ++ name ∷ []) (acc ++ record { variable = number name; value = v } ∷ [])
+within_more number names acc name v h = λ x free.
+    let t : nat_eq (number name) x ≡ false = differ (number name) x (free name (Contains-append_right names (name ∷ []) name (head_of name []))) in
+    none_then acc (record { variable = number name; value = v } ∷ []) x (within_wider number names acc name h x free) ∙ ap (λ b. cond b (Some v) None) t
+
+-- a new name's number has no value
+new_free : (number : ℕ → ℕ) (names : List ℕ) (acc : List Bound) (name : ℕ) (others : List ℕ) → Within number names acc → (Contains names name → ⊥) → Apart number (names ++ name ∷ others) →
+    value_in acc (number name) ≡ None
+new_free number names acc name others h new apart = h (number name) (λ a there e.
+    let same : a ≡ name = apart a name (Contains-append_left names (name ∷ others) a there) (Contains-append_right names (name ∷ others) name (head_of name others)) e in
+    new (subst (λ z. Contains names z) same there))
+
+apart_next : (number : ℕ → ℕ) (names : List ℕ) (name : ℕ) (others : List ℕ) → Apart number (names ++ name ∷ others) → Apart number ((names ++ name ∷ []) ++ others)
+apart_next number names name others h = subst (λ all. Apart number all) (sym (append_assoc names (name ∷ []) others)) h
 
 cut : (s : Setting) (x n m : ℕ) (acc : List Bound) (bits : List Bool) → m ≡ n → n ≤ 64 → n ≤ length bits →
     bits_taken s (Integer Unsigned Big) (Variable x) (nat_le m (length bits)) m acc bits ≡ Cut (bound_to x (VInt (pos (natural (take n bits)))) acc) (drop n bits)
@@ -149,15 +179,18 @@ whole_nil : (acc : List Bound) (bits : List Bool) → 0 ≡ length bits → whol
 whole_nil acc [] h = ap Yes (sym (append-nil acc))
 whole_nil acc (b ∷ bits) h = absurd (omega (arith, h))
 
-pub fields_taken : (s : Setting) (number : ℕ) (fields : List Field) (acc : List Bound) (bits : List Bool) → Below number acc → All IsField fields → fields_bits fields ≡ length bits →
+pub fields_taken : (s : Setting) (number : ℕ → ℕ) (names : List ℕ) (fields : List Field) (acc : List Bound) (bits : List Bool) → Within number names acc → AreNew names fields →
+    Apart number (names ++ map (λ field. field.variable) fields) → All IsField fields → fields_bits fields ≡ length bits →
     whole (all_taken s (segments (field_pieces number fields)) acc bits) ≡ Yes (acc ++ numbered number (decoded fields bits))
-fields_taken s number [] acc bits free fit even = whole_nil acc bits even
-fields_taken s number (field ∷ fields) acc bits free fit even =
+fields_taken s number names [] acc bits within new apart fit even = whole_nil acc bits even
+fields_taken s number names (field ∷ fields) acc bits within new apart fit even =
     let room : field.bits ≤ length bits = omega (arith, even, field_sum field fields) in
+    let x : ℕ = number field.variable in
     let v : Value = VInt (pos (natural (take field.bits bits))) in
-    ap whole (one_taken s number field.bits (segments (field_pieces (suc number) fields)) acc bits (free number (omega arith)) (All-head IsField field fields fit).size.1 room)
-    ∙ fields_taken s (suc number) fields (bound_to number v acc) (drop field.bits bits) (below_more number acc v free) (All-tail IsField field fields fit) (omega (arith, even, field_sum field fields, length-drop field.bits bits))
-    ∙ ap Yes (append_assoc acc (record { variable = number; value = v } ∷ []) (numbered (suc number) (decoded fields (drop field.bits bits))))
+    ap whole (one_taken s x field.bits (segments (field_pieces number fields)) acc bits (new_free number names acc field.variable (map (λ f. f.variable) fields) within new.0 apart) (All-head IsField field fields fit).size.1 room)
+    ∙ fields_taken s number (names ++ field.variable ∷ []) fields (bound_to x v acc) (drop field.bits bits) (within_more number names acc field.variable v within) new.1
+    (apart_next number names field.variable (map (λ f. f.variable) fields) apart) (All-tail IsField field fields fit) (omega (arith, even, field_sum field fields, length-drop field.bits bits))
+    ∙ ap Yes (append_assoc acc (record { variable = x; value = v } ∷ []) (numbered number (decoded fields (drop field.bits bits))))
 
 own_nil : (acc : List own_tree.Bound) (bits : List Bool) → 0 ≡ length bits → own_tree.matched_bits [] bits acc ≡ own_tree.Yes (acc ++ [])
 own_nil acc [] h = ap own_tree.Yes (sym (append-nil acc))
@@ -173,8 +206,11 @@ own_taken (field ∷ fields) acc bits even =
     ∙ ap own_tree.Yes (append_assoc acc (b ∷ []) (bounds (decoded fields (drop field.bits bits)))))
 
 -- a pattern of new variables keeps its form
-pub fields_put : (bs : List Bound) (number : ℕ) (fields : List Field) → Below number bs → in_segments bs (segments (field_pieces number fields)) ≡ segments (field_pieces number fields)
-fields_put bs number [] free = refl
-fields_put bs number (field ∷ fields) free =
-    let h = free number (omega arith) in
-    rw h (ap (segment (record { kind = Integer Unsigned Big; size = Written 1 }) (Variable number) (and (Val (VInt (pos field.bits))) end)) (fields_put bs (suc number) fields (λ x le. free x (omega (arith, le)))))
+pub fields_put : (bs : List Bound) (number : ℕ → ℕ) (names : List ℕ) (fields : List Field) → Within number names bs → AreNew names fields →
+    Apart number (names ++ map (λ field. field.variable) fields) → in_segments bs (segments (field_pieces number fields)) ≡ segments (field_pieces number fields)
+fields_put bs number names [] within new apart = refl
+fields_put bs number names (field ∷ fields) within new apart =
+    let h = new_free number names bs field.variable (map (λ f. f.variable) fields) within new.0 apart in
+    let later = fields_put bs number (names ++ field.variable ∷ []) fields (within_wider number names bs field.variable within) new.1
+    (apart_next number names field.variable (map (λ f. f.variable) fields) apart) in
+    rw h (ap (segment (record { kind = Integer Unsigned Big; size = Written 1 }) (Variable (number field.variable)) (and (Val (VInt (pos field.bits))) end)) later)

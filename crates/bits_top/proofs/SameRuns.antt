@@ -1,10 +1,11 @@
 -- A run of a module of today's form is a run of the same module in the whole language, with the same texts.
-use Rattle.std.proofs.Common.{◌≡◌, ◌⊎◌, inl, inr, ℕ, ℤ, suc, zero, ◌-◌, ◌≤◌, List, [], ◌∷◌, ◌++◌, map, true, Option, Some, None, All, refl, sym, ap, subst, ◌∙◌, arith, codes, slice_index_or}
+use Rattle.std.proofs.Common.{◌≡◌, ◌⊎◌, inl, inr, ℕ, ℤ, suc, zero, ◌-◌, ◌≤◌, List, [], ◌∷◌, ◌++◌, map, Bool, true, false, cond, nat_eq, Option, Some, None, All, refl, sym, ap, subst, ◌∙◌, arith, codes, slice_index_or}
 use Rattle.std.specs.List.{flat_map}
 use Rattle.std.proofs.lemmas.Grind.{common_steps}
+use Rattle.std.proofs.lemmas.Bool.Decides.{nat_tests}
 use Rattle.std.proofs.lemmas.List.Concat.{flat_map-cons}
 use Rattle.erl_syntax.specs.Atoms.{fixed_atoms, a_reductions}
-use Rattle.term_value.specs.Value.{VInt, VAtom}
+use Rattle.term_value.specs.Value.{VInt, VAtom, none}
 use Rattle.term_value.specs.Result.{truth}
 use Rattle.term_value.specs.Tree.{Call, All as Form, end, Module}
 use Rattle.term_value.specs.Texts.{text, atom_text}
@@ -23,18 +24,20 @@ use Rattle.bits_top.specs.Machine as own_machine
 use Rattle.bits_top.specs.Body.{code_of}
 use Rattle.bits_top.specs.Texts as own_texts
 use Rattle.bits_top.specs.Asks as own_asks
-use Rattle.bits_top.specs.Form.{IsStraight}
-use Rattle.bits_top.specs.Runs.{IsShort, bounds, end_of, with_one}
-use Rattle.bits_top.specs.Answer.{IsStraightRun}
-use Rattle.bits_top.specs.Whole.{module_of_straight, IsRunOf}
+use Rattle.first_form.specs.Form.{IsStraight, bound_by, IsShort}
+use Rattle.first_form.specs.Whole.{module_by, AreApart}
+use Rattle.bits_top.specs.Runs.{bounds, end_of, with_one}
+use Rattle.bits_top.proofs.StraightRuns.{IsStraightRun}
+use Rattle.bits_top.specs.Whole.{IsRunOf}
 use Rattle.bits_top.proofs.Goes as today
-use Rattle.bits_top.proofs.SameAsks.{Due, finished, exhausted, displaying, due, Fits, own_of, standing, resting, whole_of, own_goes, due_fits}
+use Rattle.bits_top.proofs.SameMatch.{Apart}
+use Rattle.bits_top.proofs.SameAsks.{Due, finished, exhausted, displaying, due, Fits, own_of, standing, resting, whole_of, own_goes, due_fits, not_first}
 use Rattle.bits_top.proofs.SameWalks.{asks_resting, starts, asks_first}
 use Rattle.bits_top.specs.declared.entry.Entry as own_entry
 use Rattle.bits_top.specs.declared.entry.Entry.TheVariants.{Sent, Saw, Shown, Started, Full, Ended, Stopped, Gone}
 use Rattle.bits_top.specs.declared.run.Ending.{Ending}
 use Rattle.bits_top.specs.declared.run.Ending.TheVariants.{Normal, Exhausted}
-use Rattle.bits_top.specs.declared.form.Straight.{Straight}
+use Rattle.first_form.specs.declared.form.Straight.{Straight}
 
 abbrev pub whole_entry : own_entry.Entry → Entry
 whole_entry (Sent from to) = e.Sent from to
@@ -77,10 +80,10 @@ whole_process (over ending) = Over (whole_end ending)
 whole_process (gone ending) = Left (whole_end ending)
 
 -- both ask for the same
-abbrev pub Holds : Straight → Module → Stage → Type 0
-Holds s code (runs l k d) = (own_local.ask_of (code_of s) l ≡ own_of d) × (ask_of code k ≡ whole_of d) × Fits d
-Holds s code (over ending) = Unit {0}
-Holds s code (gone ending) = Unit {0}
+abbrev pub Holds : (ℕ → ℕ) → Straight → Module → Stage → Type 0
+Holds number s code (runs l k d) = (own_local.ask_of (code_of s) l ≡ own_of d) × (ask_of code k ≡ whole_of number d) × Fits number d
+Holds number s code (over ending) = Unit {0}
+Holds number s code (gone ending) = Unit {0}
 
 abbrev pub own_ask : Stage → Option own_local.Outcome
 own_ask (runs l k d) = Some (own_of d)
@@ -112,10 +115,10 @@ far m (Ended pid) nothing h = subst own_machine.Ends (asks_none m pid nothing) h
 far m (Stopped pid) nothing h = subst own_machine.Runs nothing h.0
 far m (Gone pid births drops moved) nothing h = subst own_machine.IsOver nothing h
 
-own_asks_at : (s : Straight) (code : Module) (r : ℕ) (stage : Stage) (shown : List ℤ) (pid : ℕ) → pid - 1 ≡ 0 → Holds s code stage → own_machine.ask_at (own_at s r stage shown) pid ≡ own_ask stage
-own_asks_at s code r (runs l k d) shown pid near h = rw near (ap (λ o. Some o) h.0)
-own_asks_at s code r (over ending) shown pid near h = rw near refl
-own_asks_at s code r (gone ending) shown pid near h = rw near refl
+own_asks_at : (number : ℕ → ℕ) (s : Straight) (code : Module) (r : ℕ) (stage : Stage) (shown : List ℤ) (pid : ℕ) → pid - 1 ≡ 0 → Holds number s code stage → own_machine.ask_at (own_at s r stage shown) pid ≡ own_ask stage
+own_asks_at number s code r (runs l k d) shown pid near h = rw near (ap (λ o. Some o) h.0)
+own_asks_at number s code r (over ending) shown pid near h = rw near refl
+own_asks_at number s code r (gone ending) shown pid near h = rw near refl
 
 own_stands_at : (s : Straight) (r : ℕ) (stage : Stage) (shown : List ℤ) (pid : ℕ) → pid - 1 ≡ 0 → own_machine.process_at (own_at s r stage shown) pid ≡ Some (own_process stage)
 own_stands_at s r stage shown pid near = rw near refl
@@ -141,23 +144,23 @@ starts_not (runs l k (displaying n bs items left)) h = h
 starts_not (over ending) h = h
 starts_not (gone ending) h = h
 
-stops_not : (s : Straight) (code : Module) (r : ℕ) (stage : Stage) (shown : List ℤ) → Holds s code stage → own_machine.Runs (Some (own_process stage)) → own_machine.AllWait (code_of s) (own_process stage ∷ []) → ⊥
-stops_not s code r (runs l k d) shown h run wait = waits_not (runs l k d) (subst (λ o. own_machine.Waits (Some o)) h.0 wait.0)
-stops_not s code r (over ending) shown h run wait = run
-stops_not s code r (gone ending) shown h run wait = run
+stops_not : (number : ℕ → ℕ) (s : Straight) (code : Module) (r : ℕ) (stage : Stage) (shown : List ℤ) → Holds number s code stage → own_machine.Runs (Some (own_process stage)) → own_machine.AllWait (code_of s) (own_process stage ∷ []) → ⊥
+stops_not number s code r (runs l k d) shown h run wait = waits_not (runs l k d) (subst (λ o. own_machine.Waits (Some o)) h.0 wait.0)
+stops_not number s code r (over ending) shown h run wait = run
+stops_not number s code r (gone ending) shown h run wait = run
 
 -- an entry leads both machines to one stage
-pub record Moves (s : Straight) (code : Module) (r : ℕ) (entry : own_entry.Entry) (old : Stage) (shown : List ℤ) : Type 0 where
+pub record Moves (number : ℕ → ℕ) (s : Straight) (code : Module) (r : ℕ) (entry : own_entry.Entry) (old : Stage) (shown : List ℤ) : Type 0 where
   pub stage : Stage
   pub all : List ℤ
-  pub holds : Holds s code stage
+  pub holds : Holds number s code stage
   pub legal : Legal (whole_at code r old shown) (whole_entry entry)
   pub own : own_machine.apply (own_at s r old shown) entry ≡ own_at s r stage all
   pub whole : apply (whole_at code r old shown) (whole_entry entry) ≡ whole_at code r stage all
 
-shows : (s : Straight) (code : Module) (r pid : ℕ) (stage : Stage) (shown : List ℤ) → pid - 1 ≡ 0 → Holds s code stage → own_machine.Shows (own_ask stage) → Moves s code r (Shown pid) stage shown
-shows s code r pid (runs l k (displaying n bs items left)) shown near h fits =
-    let answered : Stage = runs (own_asks.standing left (own_asks.resting (bounds bs) items (own.VAtom (codes "true")))) (standing left (resting bs items (truth true))) (due bs items left) in
+shows : (number : ℕ → ℕ) (s : Straight) (code : Module) (r pid : ℕ) (stage : Stage) (shown : List ℤ) → pid - 1 ≡ 0 → Holds number s code stage → own_machine.Shows (own_ask stage) → Moves number s code r (Shown pid) stage shown
+shows number s code r pid (runs l k (displaying n bs items left)) shown near h fits =
+    let answered : Stage = runs (own_asks.standing left (own_asks.resting (bounds bs) items (own.VAtom (codes "true")))) (standing left (resting number bs items (truth true))) (due bs items left) in
     let more : map (λ i. own.VInt i) (shown ++ n ∷ []) ≡ map (λ i. own.VInt i) shown ++ own.VInt n ∷ [] = grind (arith, common_steps) in
     let wider : map (λ i. VInt i) (shown ++ n ∷ []) ≡ map (λ i. VInt i) shown ++ VInt n ∷ [] = grind (arith, common_steps) in
     record {
@@ -165,67 +168,67 @@ shows s code r pid (runs l k (displaying n bs items left)) shown near h fits =
       all = shown ++ n ∷ [];
       holds = (
         today.asks_resting (code_of s) (bounds bs) items left (own.VAtom (codes "true")) ∙ own_goes items bs left h.2.0,
-        asks_resting code bs items left (truth true) h.2.0 h.2.1,
-        due_fits items bs left h.2.0 h.2.1,
+        asks_resting code number bs items left (truth true) h.2.0 h.2.1 h.2.2,
+        due_fits number items bs left h.2.0 h.2.1 h.2.2,
       );
       legal = rw (near, h.1) tt;
       own = rw (near, h.0, more) refl;
       whole = rw (near, h.1, wider) refl;
     }
-shows s code r pid (runs l k finished) shown near h fits = absurd fits
-shows s code r pid (runs l k exhausted) shown near h fits = absurd fits
-shows s code r pid (over ending) shown near h fits = absurd fits
-shows s code r pid (gone ending) shown near h fits = absurd fits
+shows number s code r pid (runs l k finished) shown near h fits = absurd fits
+shows number s code r pid (runs l k exhausted) shown near h fits = absurd fits
+shows number s code r pid (over ending) shown near h fits = absurd fits
+shows number s code r pid (gone ending) shown near h fits = absurd fits
 
-ends : (s : Straight) (code : Module) (r pid : ℕ) (stage : Stage) (shown : List ℤ) → pid - 1 ≡ 0 → Holds s code stage → own_machine.Ends (own_ask stage) → Moves s code r (Ended pid) stage shown
-ends s code r pid (runs l k finished) shown near h fits =
+ends : (number : ℕ → ℕ) (s : Straight) (code : Module) (r pid : ℕ) (stage : Stage) (shown : List ℤ) → pid - 1 ≡ 0 → Holds number s code stage → own_machine.Ends (own_ask stage) → Moves number s code r (Ended pid) stage shown
+ends number s code r pid (runs l k finished) shown near h fits =
     record { stage = over Normal; all = shown; holds = tt; legal = rw (near, h.1) tt; own = rw (near, h.0) refl; whole = rw (near, h.1) refl }
-ends s code r pid (runs l k exhausted) shown near h fits =
+ends number s code r pid (runs l k exhausted) shown near h fits =
     record { stage = over Exhausted; all = shown; holds = tt; legal = rw (near, h.1) tt; own = rw (near, h.0) refl; whole = rw (near, h.1) refl }
-ends s code r pid (runs l k (displaying n bs items left)) shown near h fits = absurd fits
-ends s code r pid (over ending) shown near h fits = absurd fits
-ends s code r pid (gone ending) shown near h fits = absurd fits
+ends number s code r pid (runs l k (displaying n bs items left)) shown near h fits = absurd fits
+ends number s code r pid (over ending) shown near h fits = absurd fits
+ends number s code r pid (gone ending) shown near h fits = absurd fits
 
-goes : (s : Straight) (code : Module) (r pid births drops moved : ℕ) (stage : Stage) (shown : List ℤ) → pid - 1 ≡ 0 → own_machine.IsOver (Some (own_process stage)) →
-    Moves s code r (Gone pid births drops moved) stage shown
-goes s code r pid births drops moved (over ending) shown near fits =
+goes : (number : ℕ → ℕ) (s : Straight) (code : Module) (r pid births drops moved : ℕ) (stage : Stage) (shown : List ℤ) → pid - 1 ≡ 0 → own_machine.IsOver (Some (own_process stage)) →
+    Moves number s code r (Gone pid births drops moved) stage shown
+goes number s code r pid births drops moved (over ending) shown near fits =
     record { stage = gone ending; all = shown; holds = tt; legal = rw near tt; own = rw near refl; whole = rw near refl }
-goes s code r pid births drops moved (runs l k d) shown near fits = absurd fits
-goes s code r pid births drops moved (gone ending) shown near fits = absurd fits
+goes number s code r pid births drops moved (runs l k d) shown near fits = absurd fits
+goes number s code r pid births drops moved (gone ending) shown near fits = absurd fits
 
-near_moves : (s : Straight) (code : Module) (r : ℕ) (entry : own_entry.Entry) (stage : Stage) (shown : List ℤ) → entry_pid entry - 1 ≡ 0 → Holds s code stage →
-    own_machine.Legal (own_at s r stage shown) entry → Moves s code r entry stage shown
-near_moves s code r (Sent from to) stage shown near h fits = absurd (sends_not stage to (subst (own_machine.SendsTo to) (own_asks_at s code r stage shown from near h) fits))
-near_moves s code r (Saw pid count) stage shown near h fits = absurd (waits_not stage (subst own_machine.Waits (own_asks_at s code r stage shown pid near h) fits.0))
-near_moves s code r (Shown pid) stage shown near h fits = shows s code r pid stage shown near h (subst own_machine.Shows (own_asks_at s code r stage shown pid near h) fits)
-near_moves s code r (Started pid child) stage shown near h fits = absurd (starts_not stage (subst own_machine.Starts (own_asks_at s code r stage shown pid near h) fits.0))
-near_moves s code r (Full pid) stage shown near h fits = absurd (starts_not stage (subst own_machine.Starts (own_asks_at s code r stage shown pid near h) fits.0))
-near_moves s code r (Ended pid) stage shown near h fits = ends s code r pid stage shown near h (subst own_machine.Ends (own_asks_at s code r stage shown pid near h) fits)
-near_moves s code r (Stopped pid) stage shown near h fits = absurd (stops_not s code r stage shown h (subst own_machine.Runs (own_stands_at s r stage shown pid near) fits.0) fits.1)
-near_moves s code r (Gone pid births drops moved) stage shown near h fits =
-    goes s code r pid births drops moved stage shown near (subst own_machine.IsOver (own_stands_at s r stage shown pid near) fits)
+near_moves : (number : ℕ → ℕ) (s : Straight) (code : Module) (r : ℕ) (entry : own_entry.Entry) (stage : Stage) (shown : List ℤ) → entry_pid entry - 1 ≡ 0 → Holds number s code stage →
+    own_machine.Legal (own_at s r stage shown) entry → Moves number s code r entry stage shown
+near_moves number s code r (Sent from to) stage shown near h fits = absurd (sends_not stage to (subst (own_machine.SendsTo to) (own_asks_at number s code r stage shown from near h) fits))
+near_moves number s code r (Saw pid count) stage shown near h fits = absurd (waits_not stage (subst own_machine.Waits (own_asks_at number s code r stage shown pid near h) fits.0))
+near_moves number s code r (Shown pid) stage shown near h fits = shows number s code r pid stage shown near h (subst own_machine.Shows (own_asks_at number s code r stage shown pid near h) fits)
+near_moves number s code r (Started pid child) stage shown near h fits = absurd (starts_not stage (subst own_machine.Starts (own_asks_at number s code r stage shown pid near h) fits.0))
+near_moves number s code r (Full pid) stage shown near h fits = absurd (starts_not stage (subst own_machine.Starts (own_asks_at number s code r stage shown pid near h) fits.0))
+near_moves number s code r (Ended pid) stage shown near h fits = ends number s code r pid stage shown near h (subst own_machine.Ends (own_asks_at number s code r stage shown pid near h) fits)
+near_moves number s code r (Stopped pid) stage shown near h fits = absurd (stops_not number s code r stage shown h (subst own_machine.Runs (own_stands_at s r stage shown pid near) fits.0) fits.1)
+near_moves number s code r (Gone pid births drops moved) stage shown near h fits =
+    goes number s code r pid births drops moved stage shown near (subst own_machine.IsOver (own_stands_at s r stage shown pid near) fits)
 
-moves : (s : Straight) (code : Module) (r : ℕ) (entry : own_entry.Entry) (stage : Stage) (shown : List ℤ) → Holds s code stage →
-    own_machine.Legal (own_at s r stage shown) entry → Moves s code r entry stage shown
-moves s code r entry stage shown h fits = elim (slot (entry_pid entry)) [
-  | inl near ↦ near_moves s code r entry stage shown near h fits
+moves : (number : ℕ → ℕ) (s : Straight) (code : Module) (r : ℕ) (entry : own_entry.Entry) (stage : Stage) (shown : List ℤ) → Holds number s code stage →
+    own_machine.Legal (own_at s r stage shown) entry → Moves number s code r entry stage shown
+moves number s code r entry stage shown h fits = elim (slot (entry_pid entry)) [
+  | inl near ↦ near_moves number s code r entry stage shown near h fits
   | inr away ↦ absurd (far (own_at s r stage shown) entry (let e2 = away.1 in rw e2 refl) fits)
 ]
 
 -- an order leads both machines to one stage
-pub record Follows (s : Straight) (code : Module) (r : ℕ) (entries : List own_entry.Entry) (old : Stage) (shown : List ℤ) : Type 0 where
+pub record Follows (number : ℕ → ℕ) (s : Straight) (code : Module) (r : ℕ) (entries : List own_entry.Entry) (old : Stage) (shown : List ℤ) : Type 0 where
   pub stage : Stage
   pub all : List ℤ
   pub legal : IsLegal (whole_at code r old shown) (map whole_entry entries)
   pub own : own_machine.after (own_at s r old shown) entries ≡ own_at s r stage all
   pub whole : after (whole_at code r old shown) (map whole_entry entries) ≡ whole_at code r stage all
 
-pub follows : (s : Straight) (code : Module) (r : ℕ) (entries : List own_entry.Entry) (stage : Stage) (shown : List ℤ) → Holds s code stage →
-    own_machine.IsLegal (own_at s r stage shown) entries → Follows s code r entries stage shown
-follows s code r [] stage shown h fits = record { stage = stage; all = shown; legal = tt; own = refl; whole = refl }
-follows s code r (entry ∷ entries) stage shown h fits =
-    let first = moves s code r entry stage shown h fits.0 in
-    let later = follows s code r entries first.stage first.all first.holds (subst (λ m. own_machine.IsLegal m entries) first.own fits.1) in
+pub follows : (number : ℕ → ℕ) (s : Straight) (code : Module) (r : ℕ) (entries : List own_entry.Entry) (stage : Stage) (shown : List ℤ) → Holds number s code stage →
+    own_machine.IsLegal (own_at s r stage shown) entries → Follows number s code r entries stage shown
+follows number s code r [] stage shown h fits = record { stage = stage; all = shown; legal = tt; own = refl; whole = refl }
+follows number s code r (entry ∷ entries) stage shown h fits =
+    let first = moves number s code r entry stage shown h fits.0 in
+    let later = follows number s code r entries first.stage first.all first.holds (subst (λ m. own_machine.IsLegal m entries) first.own fits.1) in
     record {
       stage = later.stage;
       all = later.all;
@@ -234,10 +237,10 @@ follows s code r (entry ∷ entries) stage shown h fits =
       whole = ap (λ m. after m (map whole_entry entries)) first.whole ∙ later.whole;
     }
 
-all_gone : (s : Straight) (code : Module) (r : ℕ) (stage : Stage) (shown : List ℤ) → own_machine.AllGone (own_at s r stage shown).processes → AllGone (whole_at code r stage shown).processes
-all_gone s code r (runs l k d) shown h = absurd h.0
-all_gone s code r (over ending) shown h = absurd h.0
-all_gone s code r (gone ending) shown h = (tt, tt)
+all_gone : (number : ℕ → ℕ) (s : Straight) (code : Module) (r : ℕ) (stage : Stage) (shown : List ℤ) → own_machine.AllGone (own_at s r stage shown).processes → AllGone (whole_at code r stage shown).processes
+all_gone number s code r (runs l k d) shown h = absurd h.0
+all_gone number s code r (over ending) shown h = absurd h.0
+all_gone number s code r (gone ending) shown h = (tt, tt)
 
 -- the texts
 
@@ -249,20 +252,20 @@ shown_lines names (n ∷ shown) =
     ∙ ap (λ l. (own.value_text (own.VInt n) ++ codes "\n") ++ l) (shown_lines names shown)
     ∙ sym (flat_map-cons (λ v. text names v ++ codes "\n") (VInt n) (map (λ i. VInt i) shown))
 
-reductions_text : (others : List (List ℕ)) → atom_text (slice_index_or (fixed_atoms ++ others) a_reductions []) ≡ codes "reductions"
-reductions_text others = refl
+-- the text of the end's atom
+abbrev pub SpellsReductions : List (List ℕ) → Type 0
+SpellsReductions atoms = atom_text (slice_index_or atoms a_reductions []) ≡ codes "reductions"
 
-end_lines : (others : List (List ℕ)) (name : ℕ) (s : Straight) (stage : Stage) →
-    own_texts.processes_text 1 (own_process stage ∷ []) ≡ reports.processes_text (name_in (module_of_straight others name s)) 1 (whole_process stage ∷ [])
-end_lines others name s (runs l k d) = refl
-end_lines others name s (over Normal) = refl
-end_lines others name s (over Exhausted) = rw (reductions_text others) refl
-end_lines others name s (gone Normal) = refl
-end_lines others name s (gone Exhausted) = rw (reductions_text others) refl
+end_lines : (code : Module) (stage : Stage) → SpellsReductions code.atoms → own_texts.processes_text 1 (own_process stage ∷ []) ≡ reports.processes_text (name_in code) 1 (whole_process stage ∷ [])
+end_lines code (runs l k d) spelled = refl
+end_lines code (over Normal) spelled = refl
+end_lines code (over Exhausted) spelled = rw spelled refl
+end_lines code (gone Normal) spelled = refl
+end_lines code (gone Exhausted) spelled = rw spelled refl
 
-machine_lines : (others : List (List ℕ)) (name : ℕ) (s : Straight) (r : ℕ) (stage : Stage) (shown : List ℤ) →
-    own_texts.machine_text (own_at s r stage shown) ≡ reports.machine_text (whole_at (module_of_straight others name s) r stage shown)
-machine_lines others name s r stage shown = rw (shown_lines (name_in (module_of_straight others name s)) shown, end_lines others name s stage) refl
+machine_lines : (s : Straight) (code : Module) (r : ℕ) (stage : Stage) (shown : List ℤ) → SpellsReductions code.atoms →
+    own_texts.machine_text (own_at s r stage shown) ≡ reports.machine_text (whole_at code r stage shown)
+machine_lines s code r stage shown spelled = rw (shown_lines (name_in code) shown, end_lines code stage spelled) refl
 
 entry_line : (entry : own_entry.Entry) → own_texts.entry_text entry ≡ orders.entry_text (whole_entry entry)
 entry_line (Sent from to) = refl
@@ -284,37 +287,41 @@ order_lines (entry ∷ entries) =
 
 -- the whole run
 
-first_holds : (others : List (List ℕ)) (name : ℕ) (s : Straight) (left : ℕ) → IsStraight s → All IsShort s.items →
-    Holds s (module_of_straight others name s) (runs (own_asks.standing (suc left) (own_tree.Call 0)) (standing (suc left) (Form (Call 0) end)) (due [] s.items left))
-first_holds others name s left formed short = (
+first_holds : (number : ℕ → ℕ) (atoms : List (List ℕ)) (name main : ℕ) (s : Straight) (left : ℕ) → AreApart number s → IsStraight s → All IsShort s.items →
+    Holds number s (module_by number atoms name main s) (runs (own_asks.standing (suc left) (own_tree.Call 0)) (standing (suc left) (Form (Call 0) end)) (due [] s.items left))
+first_holds number atoms name main s left apart formed short = (
   today.asks_first (code_of s) s.items left refl ∙ own_goes s.items [] left formed.items,
-  asks_first others name s left formed.items short,
-  due_fits s.items [] left formed.items short,
+  asks_first number atoms name main s left formed.items short apart,
+  due_fits number s.items [] left formed.items short apart,
 )
 
-whole_start : (others : List (List ℕ)) (name : ℕ) (s : Straight) (r : ℕ) (d : Due) (l : own_local.Local) →
-    start_of (module_of_straight others name s) r ≡ whole_at (module_of_straight others name s) r (runs l (standing r (Form (Call 0) end)) d) []
-whole_start others name s r d l =
-    ap (λ k. let m : Machine = record { code = module_of_straight others name s; reductions = r; processes = Running k [] ∷ []; shown = [] } in m) (starts others name s r)
+whole_start : (number : ℕ → ℕ) (atoms : List (List ℕ)) (name main : ℕ) (s : Straight) (r : ℕ) (d : Due) (l : own_local.Local) → atom_from 0 atoms (codes "main") ≡ main →
+    start_of (module_by number atoms name main s) r ≡ whole_at (module_by number atoms name main s) r (runs l (standing r (Form (Call 0) end)) d) []
+whole_start number atoms name main s r d l called =
+    let code : Module = module_by number atoms name main s in
+    ap (λ f. let m : Machine = record { code = code; reductions = r; processes = Running (first_of code r 1 name f none) [] ∷ []; shown = [] } in m) called
+    ∙ ap (λ k. let m : Machine = record { code = code; reductions = r; processes = Running k [] ∷ []; shown = [] } in m) (starts number atoms name main s r)
 
-pub same_run : (others : List (List ℕ)) (name : ℕ) (s : Straight) (r : ℕ) (order report : List ℕ) → IsStraight s → All IsShort s.items → 1 ≤ r → IsStraightRun s r order report →
-    IsRunOf (module_of_straight others name s) r order report
-same_run others name s zero order report formed short some run = absurd (omega (arith, some))
-same_run others name s (suc left) order report formed short some run =
-    let code : Module = module_of_straight others name s in
+-- whatever the numbers of the variables, where they are different ones
+pub same_run : (number : ℕ → ℕ) (atoms others : List (List ℕ)) (name main : ℕ) (s : Straight) (r : ℕ) (order report : List ℕ) → AreApart number s → atoms ≡ fixed_atoms ++ others →
+    atom_from 0 atoms (codes "main") ≡ main → IsStraight s → All IsShort s.items → 1 ≤ r → IsStraightRun s r order report → IsRunOf (module_by number atoms name main s) r order report
+same_run number atoms others name main s zero order report apart table called formed short some run = absurd (omega (arith, some))
+same_run number atoms others name main s (suc left) order report apart table called formed short some run =
+    let code : Module = module_by number atoms name main s in
     let d : Due = due [] s.items left in
     let stage : Stage = runs (own_asks.standing (suc left) (own_tree.Call 0)) (standing (suc left) (Form (Call 0) end)) d in
-    let f = follows s code (suc left) run.entries stage [] (first_holds others name s left formed short) run.legal in
-    let at : start_of code (suc left) ≡ whole_at code (suc left) stage [] = whole_start others name s (suc left) d (own_asks.standing (suc left) (own_tree.Call 0)) in
+    let f = follows number s code (suc left) run.entries stage [] (first_holds number atoms name main s left apart formed short) run.legal in
+    let at : start_of code (suc left) ≡ whole_at code (suc left) stage [] = whole_start number atoms name main s (suc left) d (own_asks.standing (suc left) (own_tree.Call 0)) called in
+    let spelled : SpellsReductions atoms = subst SpellsReductions (sym table) refl in
     record {
       entries = map whole_entry run.entries;
       legal = subst (λ m. IsLegal m (map whole_entry run.entries)) (sym at) f.legal;
       complete = (
           let there : after (start_of code (suc left)) (map whole_entry run.entries) ≡ whole_at code (suc left) f.stage f.all = ap (λ m. after m (map whole_entry run.entries)) at ∙ f.whole in
           let over_there : own_machine.AllGone (own_at s (suc left) f.stage f.all).processes = subst (λ m. own_machine.AllGone m.processes) f.own run.complete in
-          let gone_there : AllGone (whole_at code (suc left) f.stage f.all).processes = all_gone s code (suc left) f.stage f.all over_there in
+          let gone_there : AllGone (whole_at code (suc left) f.stage f.all).processes = all_gone number s code (suc left) f.stage f.all over_there in
           subst (λ m. AllGone m.processes) (sym there) gone_there);
       ordered = run.ordered ∙ order_lines run.entries;
-      reported = run.reported ∙ ap own_texts.machine_text f.own ∙ machine_lines others name s (suc left) f.stage f.all
+      reported = run.reported ∙ ap own_texts.machine_text f.own ∙ machine_lines s code (suc left) f.stage f.all spelled
           ∙ sym (ap reports.machine_text (ap (λ m. after m (map whole_entry run.entries)) at ∙ f.whole));
     }

@@ -1,29 +1,31 @@
 -- The contractions of a process of today's form in the whole language.
-use Rattle.std.proofs.Common.{◌≡◌, ℕ, ℤ, suc, zero, ◌+◌, ◌-◌, ◌*◌, ◌≤◌, ◌<◌, List, [], ◌∷◌, ◌++◌, length, map, Bool, true, false, nat_eq, nat_lt, All, refl, sym, ap, subst, ◌∙◌, arith, append-nil, slice_index_or, codes}
+use Rattle.std.proofs.Common.{◌≡◌, ℕ, ℤ, suc, zero, ◌+◌, ◌-◌, ◌*◌, ◌≤◌, List, [], ◌∷◌, ◌++◌, length, map, Bool, true, false, nat_eq, nat_lt, All, refl, sym, ap, subst, ◌∙◌, arith, append-nil}
+use Rattle.std.specs.List.{Contains, flat_map}
 use Rattle.std.proofs.lemmas.Bool.Decides.{nat_tests}
+use Rattle.std.proofs.lemmas.List.{map-append}
 use Rattle.std.proofs.lemmas.List.Elements.{All-head, All-tail}
-use Rattle.erl_syntax.specs.Atoms.{fixed_atoms, a_reductions}
+use Rattle.erl_syntax.specs.Atoms.{a_reductions}
 use Rattle.term_value.specs.Value.{Value, Values, none, more, VInt, VAtom, VBits}
 use Rattle.term_value.specs.Result.{raise}
 use Rattle.term_value.specs.Tree.{Bound, Table, Build, Call, Display, Tree, Val, All as Form, First, end, and, Shut, Then, Last, PBits, Patterns, no_pattern, pattern_and, Module}
 use Rattle.term_value.specs.PutIn.{put_in}
 use Rattle.term_value.specs.Read.{body, types, segments}
 use Rattle.term_value.specs.Step.{World, setting, Ask, Show, Ready, Goes, Asks, step, steps}
-use Rattle.term_value.specs.Machine.{value_trees, atom_from, first_of}
+use Rattle.term_value.specs.Machine.{value_trees, first_of}
 use Rattle.term_value.specs.Local.{Local, Course, At, Fell, spent, Outcome, Wants, EndsDone, EndsRaised, Unfinished, walk, outcome_in, ask_of, size_of}
 use Rattle.bits_top.specs.Tree as own_tree
 use Rattle.bits_top.specs.Body as own_body
-use Rattle.bits_top.specs.Form.{IsField, AreItems}
-use Rattle.bits_top.specs.Runs.{IsShort, parts_bits, fields_bits, known}
-use Rattle.bits_top.specs.Whole.{field_pieces, part_piece, lines, module_of_straight}
+use Rattle.first_form.specs.Form.{IsField, AreNew, AreItems, bound_by, IsShort, parts_bits}
+use Rattle.bits_top.specs.Runs.{fields_bits, known}
+use Rattle.first_form.specs.Whole.{field_pieces, part_piece, line, module_by, AreApart}
 use Rattle.bits_top.proofs.SamePut.{put_put}
-use Rattle.bits_top.proofs.SameMatch.{part_values, part_trees, values_put, prim_parts, decoded, numbered, fields_taken, fields_put}
-use Rattle.bits_top.proofs.SameAsks.{value_of, due_display, due, standing, open_body, resting, whole_of, known_more, known_length, numbered_more, all_below, found, even_bits}
-use Rattle.bits_top.specs.declared.form.Field.{Field}
-use Rattle.bits_top.specs.declared.form.Part.{Part}
-use Rattle.bits_top.specs.declared.form.Item.{Item}
-use Rattle.bits_top.specs.declared.form.Item.TheVariants as item
-use Rattle.bits_top.specs.declared.form.Straight.{Straight}
+use Rattle.bits_top.proofs.SameMatch.{part_values, part_trees, values_put, prim_parts, decoded, numbered, Apart, apart_front, fields_taken, fields_put}
+use Rattle.bits_top.proofs.SameAsks.{value_of, due_display, due, standing, open_body, resting, whole_of, AllApart, known_more, within_known, apart_matched, apart_fields, found, even_bits}
+use Rattle.first_form.specs.declared.form.Field.{Field}
+use Rattle.first_form.specs.declared.form.Part.{Part}
+use Rattle.first_form.specs.declared.form.Item.{Item}
+use Rattle.first_form.specs.declared.form.Item.TheVariants as item
+use Rattle.first_form.specs.declared.form.Straight.{Straight}
 use Rattle.bits_top.specs.declared.matching.Binding.{Binding}
 
 -- one contraction in a walk
@@ -76,99 +78,101 @@ builds : (w : World) (ps : List Part) (rest : Shut) → parts_bits ps ≤ 134_21
 builds w ps rest h = rw (steps_ready w (part_values ps), prim_parts (setting w) ps h) refl
 
 -- the patterns of an item that matches
-abbrev pub fields_pattern : ℕ → List Field → Patterns
+abbrev pub fields_pattern : (ℕ → ℕ) → List Field → Patterns
 fields_pattern number fields = pattern_and (PBits (segments (field_pieces number fields))) no_pattern
 
-takes_last : (w : World) (number : ℕ) (fields : List Field) (bits : List Bool) → All IsField fields → fields_bits fields ≡ length bits →
-    step w (First (Val (VBits bits)) (Last (fields_pattern number fields))) ≡ Goes 0 (Val (VBits bits))
-takes_last w number fields bits fit even = rw (fields_taken (setting w) number fields [] bits (λ x le. refl) fit even) refl
+takes_last : (w : World) (number : ℕ → ℕ) (names : List ℕ) (fields : List Field) (bits : List Bool) → AreNew names fields → Apart number (names ++ map (λ field. field.variable) fields) →
+    All IsField fields → fields_bits fields ≡ length bits → step w (First (Val (VBits bits)) (Last (fields_pattern number fields))) ≡ Goes 0 (Val (VBits bits))
+takes_last w number names fields bits new apart fit even = rw (fields_taken (setting w) number names fields [] bits (λ x free. refl) new apart fit even) refl
 
-takes_then : (w : World) (number : ℕ) (fields : List Field) (bits : List Bool) (rest : Tree) → All IsField fields → fields_bits fields ≡ length bits →
-    step w (First (Val (VBits bits)) (Then (fields_pattern number fields) rest)) ≡ Goes 0 (put_in (numbered number (decoded fields bits)) rest)
-takes_then w number fields bits rest fit even = rw (fields_taken (setting w) number fields [] bits (λ x le. refl) fit even) refl
+takes_then : (w : World) (number : ℕ → ℕ) (names : List ℕ) (fields : List Field) (bits : List Bool) (rest : Tree) → AreNew names fields → Apart number (names ++ map (λ field. field.variable) fields) →
+    All IsField fields → fields_bits fields ≡ length bits → step w (First (Val (VBits bits)) (Then (fields_pattern number fields) rest)) ≡ Goes 0 (put_in (numbered number (decoded fields bits)) rest)
+takes_then w number names fields bits rest new apart fit even = rw (fields_taken (setting w) number names fields [] bits (λ x free. refl) new apart fit even) refl
 
 -- the body with the values put in
 
-open_match_last : (bs : List Binding) (fields : List Field) (ps : List Part) →
-    open_body bs (item.Match fields ps ∷ []) ≡ First (building ps) (Last (fields_pattern (length (known bs)) fields))
-open_match_last bs fields ps = rw (part_trees ps, values_put (numbered 0 bs) (part_values ps), fields_put (numbered 0 bs) (length (known bs)) fields (all_below bs)) refl
+open_match_last : (number : ℕ → ℕ) (bs : List Binding) (fields : List Field) (ps : List Part) → AreNew (known bs) fields → Apart number (known bs ++ map (λ field. field.variable) fields) →
+    open_body number bs (item.Match fields ps ∷ []) ≡ First (building ps) (Last (fields_pattern number fields))
+open_match_last number bs fields ps new apart =
+    rw (part_trees ps, values_put (numbered number bs) (part_values ps), fields_put (numbered number bs) number (known bs) fields (within_known number bs) new apart) refl
 
-open_match_then : (bs : List Binding) (fields : List Field) (ps : List Part) (next : Item) (items : List Item) →
-    open_body bs (item.Match fields ps ∷ next ∷ items)
-    ≡ First (building ps) (Then (fields_pattern (length (known bs)) fields) (put_in (numbered 0 bs) (body (lines (known bs ++ map (λ field. field.variable) fields) (next ∷ items)))))
-open_match_then bs fields ps next items = rw (part_trees ps, values_put (numbered 0 bs) (part_values ps), fields_put (numbered 0 bs) (length (known bs)) fields (all_below bs)) refl
+open_match_then : (number : ℕ → ℕ) (bs : List Binding) (fields : List Field) (ps : List Part) (next : Item) (items : List Item) → AreNew (known bs) fields →
+    Apart number (known bs ++ map (λ field. field.variable) fields) →
+    open_body number bs (item.Match fields ps ∷ next ∷ items) ≡ First (building ps) (Then (fields_pattern number fields) (open_body number bs (next ∷ items)))
+open_match_then number bs fields ps next items new apart =
+    rw (part_trees ps, values_put (numbered number bs) (part_values ps), fields_put (numbered number bs) number (known bs) fields (within_known number bs) new apart) refl
 
 -- the body after a match
-open_after : (bs : List Binding) (fields : List Field) (bits : List Bool) (items : List Item) →
-    put_in (numbered (length (known bs)) (decoded fields bits)) (put_in (numbered 0 bs) (body (lines (known bs ++ map (λ field. field.variable) fields) items)))
-    ≡ open_body (bs ++ decoded fields bits) items
-open_after bs fields bits items =
-    put_put (numbered 0 bs) (numbered (length (known bs)) (decoded fields bits)) (body (lines (known bs ++ map (λ field. field.variable) fields) items))
-    ∙ ap (λ b. put_in b (body (lines (known bs ++ map (λ field. field.variable) fields) items))) (numbered_more 0 (length (known bs)) bs (decoded fields bits) (omega (arith, known_length bs)))
-    ∙ ap (λ names. put_in (numbered 0 (bs ++ decoded fields bits)) (body (lines names items))) (sym (known_more bs fields bits))
+open_after : (number : ℕ → ℕ) (bs : List Binding) (fields : List Field) (bits : List Bool) (items : List Item) →
+    put_in (numbered number (decoded fields bits)) (open_body number bs items) ≡ open_body number (bs ++ decoded fields bits) items
+open_after number bs fields bits items =
+    put_put (numbered number bs) (numbered number (decoded fields bits)) (body (map (line number) items))
+    ∙ ap (λ b. put_in b (body (map (line number) items))) (sym (map-append (λ b. record { variable = number b.variable; value = VInt b.value }) bs (decoded fields bits)))
 
 abbrev pub display_of : ℤ → Tree
 display_of n = Form Display (and (Val (VInt n)) end)
 
-walk_shows_last : (code : Module) (less : Local → Outcome) (n left : ℕ) (v : ℤ) (bs : List Binding) → walk code less (suc n) (standing left (display_of v)) ≡ whole_of (due_display v bs [] left)
-walk_shows_last code less n zero v bs = walk_spent code less n (display_of v) (Show (VInt v)) (λ a. Val a) refl
-walk_shows_last code less n (suc left) v bs = walk_asks code less n left (display_of v) (Show (VInt v)) (λ a. Val a) refl
+walk_shows_last : (code : Module) (less : Local → Outcome) (number : ℕ → ℕ) (n left : ℕ) (v : ℤ) (bs : List Binding) →
+    walk code less (suc n) (standing left (display_of v)) ≡ whole_of number (due_display v bs [] left)
+walk_shows_last code less number n zero v bs = walk_spent code less n (display_of v) (Show (VInt v)) (λ a. Val a) refl
+walk_shows_last code less number n (suc left) v bs = walk_asks code less n left (display_of v) (Show (VInt v)) (λ a. Val a) refl
 
-walk_shows_then : (code : Module) (less : Local → Outcome) (n left : ℕ) (v : ℤ) (bs : List Binding) (next : Item) (items : List Item) →
-    walk code less (suc n) (standing left (First (display_of v) (Then no_pattern (open_body bs (next ∷ items))))) ≡ whole_of (due_display v bs (next ∷ items) left)
-walk_shows_then code less n zero v bs next items =
-    walk_spent code less n (First (display_of v) (Then no_pattern (open_body bs (next ∷ items)))) (Show (VInt v)) (λ a. First (Val a) (Then no_pattern (open_body bs (next ∷ items)))) refl
-walk_shows_then code less n (suc left) v bs next items =
-    walk_asks code less n left (First (display_of v) (Then no_pattern (open_body bs (next ∷ items)))) (Show (VInt v)) (λ a. First (Val a) (Then no_pattern (open_body bs (next ∷ items)))) refl
+walk_shows_then : (code : Module) (less : Local → Outcome) (number : ℕ → ℕ) (n left : ℕ) (v : ℤ) (bs : List Binding) (next : Item) (items : List Item) →
+    walk code less (suc n) (standing left (First (display_of v) (Then no_pattern (open_body number bs (next ∷ items))))) ≡ whole_of number (due_display v bs (next ∷ items) left)
+walk_shows_then code less number n zero v bs next items =
+    let t : Tree = open_body number bs (next ∷ items) in
+    walk_spent code less n (First (display_of v) (Then no_pattern t)) (Show (VInt v)) (λ a. First (Val a) (Then no_pattern t)) refl
+walk_shows_then code less number n (suc left) v bs next items =
+    let t : Tree = open_body number bs (next ∷ items) in
+    walk_asks code less n left (First (display_of v) (Then no_pattern t)) (Show (VInt v)) (λ a. First (Val a) (Then no_pattern t)) refl
 
-open_display_last : (bs : List Binding) (x j : ℕ) → j < length (known bs) → slice_index_or (known bs) j x ≡ x → open_body bs (item.Display x ∷ []) ≡ display_of (value_of bs x)
-open_display_last bs x j h e = rw (found 0 bs x j h e) refl
+open_display_last : (number : ℕ → ℕ) (bs : List Binding) (x : ℕ) → Contains (known bs) x → Apart number (known bs) → open_body number bs (item.Display x ∷ []) ≡ display_of (value_of bs x)
+open_display_last number bs x h apart = rw (found number bs x h apart) refl
 
-open_display_then : (bs : List Binding) (x j : ℕ) (next : Item) (items : List Item) → j < length (known bs) → slice_index_or (known bs) j x ≡ x →
-    open_body bs (item.Display x ∷ next ∷ items) ≡ First (display_of (value_of bs x)) (Then no_pattern (open_body bs (next ∷ items)))
-open_display_then bs x j next items h e =
-    rw (found 0 bs x j h e) (ap (λ names. First (display_of (value_of bs x)) (Then no_pattern (put_in (numbered 0 bs) (body (lines names (next ∷ items)))))) (append-nil (known bs)))
+open_display_then : (number : ℕ → ℕ) (bs : List Binding) (x : ℕ) (next : Item) (items : List Item) → Contains (known bs) x → Apart number (known bs) →
+    open_body number bs (item.Display x ∷ next ∷ items) ≡ First (display_of (value_of bs x)) (Then no_pattern (open_body number bs (next ∷ items)))
+open_display_then number bs x next items h apart = rw (found number bs x h apart) refl
 
 -- the items one after another
 
 -- two contractions an item are never too many
-room_for : (items : List Item) (names : List ℕ) (bs : List Bound) → 2 * length items ≤ size_of (put_in bs (body (lines names items)))
-room_for [] names bs = omega arith
-room_for (item.Match fields ps ∷ []) names bs = omega arith
-room_for (item.Display x ∷ []) names bs = omega arith
-room_for (item.Match fields ps ∷ next ∷ items) names bs = omega (arith, room_for (next ∷ items) (names ++ map (λ field. field.variable) fields) bs)
-room_for (item.Display x ∷ next ∷ items) names bs = omega (arith, room_for (next ∷ items) (names ++ []) bs)
+room_for : (number : ℕ → ℕ) (items : List Item) (bs : List Bound) → 2 * length items ≤ size_of (put_in bs (body (map (line number) items)))
+room_for number [] bs = omega arith
+room_for number (item.Match fields ps ∷ []) bs = omega arith
+room_for number (item.Display x ∷ []) bs = omega arith
+room_for number (item.Match fields ps ∷ next ∷ items) bs = omega (arith, room_for number (next ∷ items) bs)
+room_for number (item.Display x ∷ next ∷ items) bs = omega (arith, room_for number (next ∷ items) bs)
 
-walk_items : (code : Module) (less : Local → Outcome) (items : List Item) (bs : List Binding) (left n : ℕ) → AreItems (known bs) items → All IsShort items → 2 * length items ≤ n →
-    walk code less n (standing left (open_body bs items)) ≡ whole_of (due bs items left)
-walk_items code less [] bs left n fits short h = walk_done code less n left _
-walk_items code less (i ∷ items) bs left zero fits short h = absurd (omega (arith, h))
-walk_items code less (i ∷ items) bs left (suc zero) fits short h = absurd (omega (arith, h))
-walk_items code less (item.Match fields ps ∷ []) bs left (suc (suc n)) fits short h =
-    let number : ℕ = length (known bs) in
-    ap (λ t. walk code less (suc (suc n)) (standing left t)) (open_match_last bs fields ps)
+walk_items : (code : Module) (less : Local → Outcome) (number : ℕ → ℕ) (items : List Item) (bs : List Binding) (left n : ℕ) → AreItems (known bs) items → All IsShort items → AllApart number bs items →
+    2 * length items ≤ n → walk code less n (standing left (open_body number bs items)) ≡ whole_of number (due bs items left)
+walk_items code less number [] bs left n fits short apart h = walk_done code less n left _
+walk_items code less number (i ∷ items) bs left zero fits short apart h = absurd (omega (arith, h))
+walk_items code less number (i ∷ items) bs left (suc zero) fits short apart h = absurd (omega (arith, h))
+walk_items code less number (item.Match fields ps ∷ []) bs left (suc (suc n)) fits short apart h =
+    let here = apart_fields number bs fields ps [] apart in
+    ap (λ t. walk code less (suc (suc n)) (standing left t)) (open_match_last number bs fields ps fits.0.new here)
     ∙ walk_free code less (suc n) left (First (building ps) (Last (fields_pattern number fields))) (First (Val (VBits (bits_of ps))) (Last (fields_pattern number fields)))
     (builds (world_of code) ps (Last (fields_pattern number fields)) (All-head IsShort (item.Match fields ps) [] short))
     ∙ walk_free code less n left (First (Val (VBits (bits_of ps))) (Last (fields_pattern number fields))) (Val (VBits (bits_of ps)))
-    (takes_last (world_of code) number fields (bits_of ps) fits.0.fields_fit (even_bits (known bs) fields ps fits.0))
+    (takes_last (world_of code) number (known bs) fields (bits_of ps) fits.0.new here fits.0.fields_fit (even_bits (known bs) fields ps fits.0))
     ∙ walk_done code less n left (VBits (bits_of ps))
-walk_items code less (item.Match fields ps ∷ next ∷ items) bs left (suc (suc n)) fits short h =
-    let number : ℕ = length (known bs) in
-    let rest : Tree = put_in (numbered 0 bs) (body (lines (known bs ++ map (λ field. field.variable) fields) (next ∷ items))) in
-    ap (λ t. walk code less (suc (suc n)) (standing left t)) (open_match_then bs fields ps next items)
+walk_items code less number (item.Match fields ps ∷ next ∷ items) bs left (suc (suc n)) fits short apart h =
+    let here = apart_fields number bs fields ps (next ∷ items) apart in
+    let rest : Tree = open_body number bs (next ∷ items) in
+    ap (λ t. walk code less (suc (suc n)) (standing left t)) (open_match_then number bs fields ps next items fits.0.new here)
     ∙ walk_free code less (suc n) left (First (building ps) (Then (fields_pattern number fields) rest)) (First (Val (VBits (bits_of ps))) (Then (fields_pattern number fields) rest))
     (builds (world_of code) ps (Then (fields_pattern number fields) rest) (All-head IsShort (item.Match fields ps) (next ∷ items) short))
     ∙ walk_free code less n left (First (Val (VBits (bits_of ps))) (Then (fields_pattern number fields) rest)) (put_in (numbered number (decoded fields (bits_of ps))) rest)
-    (takes_then (world_of code) number fields (bits_of ps) rest fits.0.fields_fit (even_bits (known bs) fields ps fits.0))
-    ∙ ap (λ t. walk code less n (standing left t)) (open_after bs fields (bits_of ps) (next ∷ items))
-    ∙ walk_items code less (next ∷ items) (bs ++ decoded fields (bits_of ps)) left n (subst (λ names. AreItems names (next ∷ items)) (sym (known_more bs fields (bits_of ps))) fits.1)
-    (All-tail IsShort (item.Match fields ps) (next ∷ items) short) (omega (arith, h))
-walk_items code less (item.Display x ∷ []) bs left (suc (suc n)) fits short h =
-    ap (λ t. walk code less (suc (suc n)) (standing left t)) (open_display_last bs x fits.0.0 fits.0.1 fits.0.2)
-    ∙ walk_shows_last code less (suc n) left (value_of bs x) bs
-walk_items code less (item.Display x ∷ next ∷ items) bs left (suc (suc n)) fits short h =
-    ap (λ t. walk code less (suc (suc n)) (standing left t)) (open_display_then bs x fits.0.0 next items fits.0.1 fits.0.2)
-    ∙ walk_shows_then code less (suc n) left (value_of bs x) bs next items
+    (takes_then (world_of code) number (known bs) fields (bits_of ps) rest fits.0.new here fits.0.fields_fit (even_bits (known bs) fields ps fits.0))
+    ∙ ap (λ t. walk code less n (standing left t)) (open_after number bs fields (bits_of ps) (next ∷ items))
+    ∙ walk_items code less number (next ∷ items) (bs ++ decoded fields (bits_of ps)) left n (subst (λ names. AreItems names (next ∷ items)) (sym (known_more bs fields (bits_of ps))) fits.1)
+    (All-tail IsShort (item.Match fields ps) (next ∷ items) short) (apart_matched number bs fields ps (bits_of ps) (next ∷ items) apart) (omega (arith, h))
+walk_items code less number (item.Display x ∷ []) bs left (suc (suc n)) fits short apart h =
+    ap (λ t. walk code less (suc (suc n)) (standing left t)) (open_display_last number bs x fits.0 (apart_front number (known bs) (flat_map bound_by (item.Display x ∷ [])) apart))
+    ∙ walk_shows_last code less number (suc n) left (value_of bs x) bs
+walk_items code less number (item.Display x ∷ next ∷ items) bs left (suc (suc n)) fits short apart h =
+    ap (λ t. walk code less (suc (suc n)) (standing left t)) (open_display_then number bs x next items fits.0 (apart_front number (known bs) (flat_map bound_by (item.Display x ∷ next ∷ items)) apart))
+    ∙ walk_shows_then code less number (suc n) left (value_of bs x) bs next items
 
 -- the ask of a local state
 
@@ -177,34 +181,35 @@ by_walk code zero t o h = h (λ l. Unfinished)
 by_walk code (suc left) t o h = h (outcome_in code left)
 
 -- after a display that was answered
-pub asks_resting : (code : Module) (bs : List Binding) (items : List Item) (left : ℕ) (answer : Value) → AreItems (known bs) items → All IsShort items →
-    ask_of code (standing left (resting bs items answer)) ≡ whole_of (due bs items left)
-asks_resting code bs [] left answer fits short = by_walk code left (Val answer) EndsDone (λ less. walk_done code less 2 left answer)
-asks_resting code bs (i ∷ items) left answer fits short =
-    let t : Tree = open_body bs (i ∷ items) in
-    let again : put_in [] t ≡ t = put_put (numbered 0 bs) [] (body (lines (known bs) (i ∷ items))) ∙ ap (λ b. put_in b (body (lines (known bs) (i ∷ items)))) (append-nil (numbered 0 bs)) in
-    let room : 2 * length (i ∷ items) ≤ 1 + size_of t + 2 = omega (arith, room_for (i ∷ items) (known bs) (numbered 0 bs)) in
-    by_walk code left (First (Val answer) (Then no_pattern t)) (whole_of (due bs (i ∷ items) left))
-    (λ less. walk_free code less (1 + size_of t + 2) left (First (Val answer) (Then no_pattern t)) t (ap (λ u. Goes 0 u) again) ∙ walk_items code less (i ∷ items) bs left (1 + size_of t + 2) fits short room)
+pub asks_resting : (code : Module) (number : ℕ → ℕ) (bs : List Binding) (items : List Item) (left : ℕ) (answer : Value) → AreItems (known bs) items → All IsShort items → AllApart number bs items →
+    ask_of code (standing left (resting number bs items answer)) ≡ whole_of number (due bs items left)
+asks_resting code number bs [] left answer fits short apart = by_walk code left (Val answer) EndsDone (λ less. walk_done code less 2 left answer)
+asks_resting code number bs (i ∷ items) left answer fits short apart =
+    let t : Tree = open_body number bs (i ∷ items) in
+    let again : put_in [] t ≡ t = put_put (numbered number bs) [] (body (map (line number) (i ∷ items))) ∙ ap (λ b. put_in b (body (map (line number) (i ∷ items)))) (append-nil (numbered number bs)) in
+    let room : 2 * length (i ∷ items) ≤ 1 + size_of t + 2 = omega (arith, room_for number (i ∷ items) (numbered number bs)) in
+    by_walk code left (First (Val answer) (Then no_pattern t)) (whole_of number (due bs (i ∷ items) left))
+    (λ less. walk_free code less (1 + size_of t + 2) left (First (Val answer) (Then no_pattern t)) t (ap (λ u. Goes 0 u) again)
+    ∙ walk_items code less number (i ∷ items) bs left (1 + size_of t + 2) fits short apart room)
 
 same_number : (n : ℕ) → nat_eq n n ≡ true
 same_number n = grind (arith, nat_tests)
 
 -- process 1 at its start has a call of `main/0`
-pub starts : (others : List (List ℕ)) (name : ℕ) (straight : Straight) (reductions : ℕ) →
-    first_of (module_of_straight others name straight) reductions 1 name (atom_from 0 (fixed_atoms ++ others) (codes "main")) none ≡ standing reductions (Form (Call 0) end)
-starts others name straight reductions = rw (same_number name, same_number (atom_from 0 (fixed_atoms ++ others) (codes "main"))) refl
+pub starts : (number : ℕ → ℕ) (atoms : List (List ℕ)) (name main : ℕ) (straight : Straight) (reductions : ℕ) →
+    first_of (module_by number atoms name main straight) reductions 1 name main none ≡ standing reductions (Form (Call 0) end)
+starts number atoms name main straight reductions = rw (same_number name, same_number main) refl
 
 -- when the call is paid
-pub asks_first : (others : List (List ℕ)) (name : ℕ) (straight : Straight) (left : ℕ) → AreItems [] straight.items → All IsShort straight.items →
-    ask_of (module_of_straight others name straight) (standing (suc left) (Form (Call 0) end)) ≡ whole_of (due [] straight.items left)
-asks_first others name straight left fits short =
-    let code : Module = module_of_straight others name straight in
+pub asks_first : (number : ℕ → ℕ) (atoms : List (List ℕ)) (name main : ℕ) (straight : Straight) (left : ℕ) → AreItems [] straight.items → All IsShort straight.items → AreApart number straight →
+    ask_of (module_by number atoms name main straight) (standing (suc left) (Form (Call 0) end)) ≡ whole_of number (due [] straight.items left)
+asks_first number atoms name main straight left fits short apart =
+    let code : Module = module_by number atoms name main straight in
     let p : nat_lt (suc left) 1 ≡ false = grind (arith, nat_tests) in
     let q : nat_lt left (suc left) ≡ true = grind (arith, nat_tests) in
     let d : suc left - 1 ≡ left = omega arith in
-    let t : Tree = open_body [] straight.items in
-    let inside : ask_of code (standing left t) ≡ whole_of (due [] straight.items left) =
-    by_walk code left t (whole_of (due [] straight.items left))
-    (λ less. walk_items code less straight.items [] left (suc (size_of t)) fits short (omega (arith, room_for straight.items [] []))) in
+    let t : Tree = open_body number [] straight.items in
+    let inside : ask_of code (standing left t) ≡ whole_of number (due [] straight.items left) =
+    by_walk code left t (whole_of number (due [] straight.items left))
+    (λ less. walk_items code less number straight.items [] left (suc (size_of t)) fits short apart (omega (arith, room_for number straight.items []))) in
     rw (p, d, q) inside

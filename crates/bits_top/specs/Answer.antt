@@ -1,17 +1,17 @@
 -- What each answer of a command says of the ports (this project's own).
-use Rattle.std.specs.Prelude.{◌≡◌, ◌⊎◌, ℕ, ◌≤◌, ◌<◌, List, length, codes, Option, Some, IfSome}
+use Rattle.std.specs.Prelude.{◌≡◌, ◌⊎◌, ℕ, ◌≤◌, ◌<◌, ◌++◌, List, length, codes, Option, Some, IfSome}
 use Rattle.std.specs.Io.KnownBytes.{Appends, IsAtEnd}
 use Rattle.io_ports.specs.Causes.{Rose}
 use Rattle.bits_top.specs.Stream.{AppendsPrefix}
-use Rattle.bits_top.specs.Form.{IsForm}
+use Rattle.erl_syntax.specs.Atoms.{fixed_atoms}
 use Rattle.erl_syntax.specs.declared.module.Module.{Module}
+use Rattle.erl_syntax.specs.declared.span.Span.{Span}
 use Rattle.module_accept.specs.Accepting.{Accepts, IsDue}
-use Rattle.bits_top.specs.Machine.{IsLegal, IsComplete}
-use Rattle.bits_top.specs.Runs.{start}
-use Rattle.bits_top.specs.Texts as texts
-use Rattle.bits_top.specs.Whole.{IsRunOf, module_of_straight}
-use Rattle.bits_top.specs.declared.entry.Entry.{Entry}
-use Rattle.bits_top.specs.declared.form.Straight.{Straight}
+use Rattle.term_value.specs.ReadTrees.{module_of}
+use Rattle.first_form.specs.TreeOf.{IsForm, IsTreeOf}
+use Rattle.first_form.specs.Numbers.{AreNumbersOf, StandOnce}
+use Rattle.first_form.specs.declared.form.Straight.{Straight}
+use Rattle.bits_top.specs.Whole.{IsRunOf}
 use Rattle.bits_top.specs.declared.status.Status.{Status}
 use Rattle.bits_top.specs.declared.status.Status.TheVariants.{Done, Refused, Usage, ReadFault, ReportFault, OrderFault, NoMemory, BadOrder}
 
@@ -58,10 +58,10 @@ pub record IsWhole (source : Port) (text : List ℕ) (m : Module) : Type 0 where
   pub accepts : Accepts text m
 
 -- So it is, and the module has today's form.
-pub record IsAccepted (source : Port) (text : List ℕ) (straight : Straight) : Type 0 where
-  pub tree : Module
+pub record IsAccepted (source : Port) (text : List ℕ) (tree : Module) : Type 0 where
   pub whole : IsWhole source text tree
-  pub form : IsForm text straight
+  pub straight : Straight
+  pub form : IsForm text tree straight
 
 pub record IsTooLong (source : Port) (text line : List ℕ) : Type 0 where
   pub held : Held source text
@@ -80,7 +80,7 @@ pub record IsUnaccepted (source : Port) (text line : List ℕ) : Type 0 where
 pub record IsNotBuilt (source : Port) (text line : List ℕ) : Type 0 where
   pub tree : Module
   pub whole : IsWhole source text tree
-  pub none : (straight : Straight) → IsForm text straight → ⊥
+  pub none : (m : Module) (straight : Straight) → Accepts text m → IsForm text m straight → ⊥
   pub due : line ≡ codes "1:1: not built\n"
 
 -- The text is refused with this line, whatever is to be done with it.
@@ -91,28 +91,20 @@ IsRefusedText source text line = IsTooLong source text line ⊎ IsUnaccepted sou
 abbrev pub IsRefusedWith : Port → List ℕ → List ℕ → Type 0
 IsRefusedWith source text line = IsRefusedText source text line ⊎ IsNotBuilt source text line
 
--- An order of the copying machine for modules of today's form, legal and complete, and its two texts.
-pub record IsStraightRun (straight : Straight) (reductions : ℕ) (order report : List ℕ) : Type 0 where
-  pub entries : List Entry
-  pub legal : IsLegal (start straight reductions) entries
-  pub complete : IsComplete (start straight reductions) entries
-  pub ordered : order ≡ texts.order_text entries
-  pub reported : report ≡ texts.report (start straight reductions) entries
-
--- The two texts are those of a legal and complete order of the module in the whole language, whatever further atoms its table
--- has.
-abbrev pub IsRun : Straight → ℕ → List ℕ → List ℕ → Type 0
-IsRun straight reductions order report = (others : List (List ℕ)) (name : ℕ) → IsRunOf (module_of_straight others name straight) reductions order report
+-- The two texts are those of a legal and complete order of the copying machine for the module that is read from the tree, with
+-- the numbers of its variables.
+abbrev pub IsRun : Module → ℕ → List ℕ → List ℕ → Type 0
+IsRun tree reductions order report = (number_at : Span → ℕ) → AreNumbersOf number_at tree → IsRunOf (module_of number_at tree) reductions order report
 
 -- The module was run: all bytes that the order sink took are the text of a legal and complete order, and all that the
 -- report sink took are the module's report in that order.
 pub record IsDone (reductions : ℕ) (source report order : Port) : Type 0 where
   pub text : List ℕ
-  pub straight : Straight
-  pub read : IsAccepted source text straight
+  pub tree : Module
+  pub read : IsAccepted source text tree
   pub order_text : List ℕ
   pub report_text : List ℕ
-  pub run : IsRun straight reductions order_text report_text
+  pub run : IsRun tree reductions order_text report_text
   pub ordered : Took order order_text
   pub reported : Took report report_text
 
@@ -131,11 +123,11 @@ pub record IsReadFault (source report order : Port) : Type 0 where
 
 pub record IsOrderFault (reductions : ℕ) (source report order : Port) : Type 0 where
   pub text : List ℕ
-  pub straight : Straight
-  pub read : IsAccepted source text straight
+  pub tree : Module
+  pub read : IsAccepted source text tree
   pub order_text : List ℕ
   pub report_text : List ℕ
-  pub run : IsRun straight reductions order_text report_text
+  pub run : IsRun tree reductions order_text report_text
   pub fault : Faulted order
   pub ordered : TookFront order order_text
   pub reported : Untouched report
@@ -143,11 +135,11 @@ pub record IsOrderFault (reductions : ℕ) (source report order : Port) : Type 0
 -- The report of a run was due, whose order is written whole.
 pub record IsReportFaultOfRun (reductions : ℕ) (source report order : Port) : Type 0 where
   pub text : List ℕ
-  pub straight : Straight
-  pub read : IsAccepted source text straight
+  pub tree : Module
+  pub read : IsAccepted source text tree
   pub order_text : List ℕ
   pub report_text : List ℕ
-  pub run : IsRun straight reductions order_text report_text
+  pub run : IsRun tree reductions order_text report_text
   pub ordered : Took order order_text
   pub fault : Faulted report
   pub reported : TookFront report report_text
@@ -183,18 +175,28 @@ AnswersRefusal OrderFault report line = ⊥
 AnswersRefusal NoMemory report line = ⊥
 AnswersRefusal BadOrder report line = ⊥
 
+-- a table of atoms: the fixed ones first, and each once
+pub record IsTable (atoms : List (List ℕ)) : Type 0 where
+  pub others : List (List ℕ)
+  pub fixed : atoms ≡ fixed_atoms ++ others
+  pub once : StandOnce atoms
+
+-- the two texts are those of a run of each module with such a tree
+abbrev pub RunsEach : Straight → ℕ → List ℕ → List ℕ → Type 0
+RunsEach straight reductions order report = (tree : Module) → IsTreeOf tree straight → IsTable tree.atoms → IsRun tree reductions order report
+
 -- the two sinks after a run that is written
 pub record IsWritten (straight : Straight) (reductions : ℕ) (report order : Port) : Type 0 where
   pub order_text : List ℕ
   pub report_text : List ℕ
-  pub run : IsRun straight reductions order_text report_text
+  pub run : RunsEach straight reductions order_text report_text
   pub ordered : Took order order_text
   pub reported : Took report report_text
 
 pub record IsOrderFailed (straight : Straight) (reductions : ℕ) (report order : Port) : Type 0 where
   pub order_text : List ℕ
   pub report_text : List ℕ
-  pub run : IsRun straight reductions order_text report_text
+  pub run : RunsEach straight reductions order_text report_text
   pub fault : Faulted order
   pub ordered : TookFront order order_text
   pub reported : Untouched report
@@ -202,7 +204,7 @@ pub record IsOrderFailed (straight : Straight) (reductions : ℕ) (report order 
 pub record IsReportFailed (straight : Straight) (reductions : ℕ) (report order : Port) : Type 0 where
   pub order_text : List ℕ
   pub report_text : List ℕ
-  pub run : IsRun straight reductions order_text report_text
+  pub run : RunsEach straight reductions order_text report_text
   pub ordered : Took order order_text
   pub fault : Faulted report
   pub reported : TookFront report report_text
@@ -232,12 +234,12 @@ pub record IsSmooth (source report order : Port) : Type 0 where
   pub tree : Module
   pub accepts : Accepts text tree
   pub straight : Straight
-  pub form : IsForm text straight
+  pub form : IsForm text tree straight
   pub well : AreWell source report order
 
 -- a text that can't be run: it is too long, or no accepted module's, or hasn't today's form
 abbrev pub CantRun : List ℕ → Type 0
-CantRun text = (text_limit < length text) ⊎ (((m : Module) → Accepts text m → ⊥) ⊎ ((straight : Straight) → IsForm text straight → ⊥))
+CantRun text = (text_limit < length text) ⊎ (((m : Module) → Accepts text m → ⊥) ⊎ ((m : Module) (straight : Straight) → Accepts text m → IsForm text m straight → ⊥))
 
 -- The source tells a text that can't be run, and no count rises.
 pub record IsSmoothRefusal (source report order : Port) : Type 0 where

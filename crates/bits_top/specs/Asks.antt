@@ -4,8 +4,8 @@ use Rattle.bits_top.specs.Value.{Value, VAtom, VBits, VTuple, more, none}
 use Rattle.bits_top.specs.Tree.{Tree, Val, First, Next, Bound, Matched, Yes, No, built, matched, put_in, value_in}
 use Rattle.bits_top.specs.Local.{Local, At, Outcome, Wants, EndsDone, EndsRaised, Show}
 use Rattle.bits_top.specs.Body.{segments, pattern, body}
-use Rattle.bits_top.specs.declared.form.Item.{Item}
-use Rattle.bits_top.specs.declared.form.Item.TheVariants.{Match, Display}
+use Rattle.first_form.specs.declared.form.Item.{Item}
+use Rattle.first_form.specs.declared.form.Item.TheVariants.{Match, Display}
 
 -- process 1 with an expression, and so many reductions left
 abbrev pub standing : ℕ → Tree → Local

@@ -3,13 +3,13 @@ use Rattle.std.specs.Prelude.{List, [], ◌∷◌, map, codes, pos}
 use Rattle.bits_top.specs.Value.{VAtom}
 use Rattle.bits_top.specs.Tree.{Segment, Target, Pattern, PBits, Tree, Val, Var, Build, First, Next, Then, Last}
 use Rattle.bits_top.specs.Tree as tree
-use Rattle.bits_top.specs.Form.{part_size}
+use Rattle.first_form.specs.Form.{part_size}
 use Rattle.bits_top.specs.Local.{Code}
-use Rattle.bits_top.specs.declared.form.Field.{Field}
-use Rattle.bits_top.specs.declared.form.Part.{Part}
-use Rattle.bits_top.specs.declared.form.Item.{Item}
-use Rattle.bits_top.specs.declared.form.Item.TheVariants.{Match, Display}
-use Rattle.bits_top.specs.declared.form.Straight.{Straight}
+use Rattle.first_form.specs.declared.form.Field.{Field}
+use Rattle.first_form.specs.declared.form.Part.{Part}
+use Rattle.first_form.specs.declared.form.Item.{Item}
+use Rattle.first_form.specs.declared.form.Item.TheVariants.{Match, Display}
+use Rattle.first_form.specs.declared.form.Straight.{Straight}
 
 abbrev pub segments : List Part → List Segment
 segments parts = map (λ part. record { value = pos part.value; bits = part_size part.bits }) parts

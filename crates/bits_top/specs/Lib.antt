@@ -2,10 +2,8 @@ pub mod Answer
 pub mod Asks
 pub mod Body
 pub mod Command
-pub mod Form
 pub mod Local
 pub mod Machine
-pub mod Reading
 pub mod Runs
 pub mod Stream
 pub mod Texts

@@ -7,14 +7,14 @@ use Rattle.bits_top.specs.Local as l
 use Rattle.bits_top.specs.Machine.{End, Exit, Process, Running, Left, Machine, start_of, after, IsLegal}
 use Rattle.bits_top.specs.Machine as machine
 use Rattle.bits_top.specs.Body.{segments, pattern, code_of}
-use Rattle.bits_top.specs.Form.{part_size, AreItems}
+use Rattle.first_form.specs.Form.{AreItems}
 use Rattle.bits_top.specs.Asks.{goes}
 use Rattle.bits_top.specs.declared.entry.Entry.{Entry}
-use Rattle.bits_top.specs.declared.form.Field.{Field}
-use Rattle.bits_top.specs.declared.form.Part.{Part}
-use Rattle.bits_top.specs.declared.form.Item.{Item}
-use Rattle.bits_top.specs.declared.form.Item.TheVariants.{Match, Display}
-use Rattle.bits_top.specs.declared.form.Straight.{Straight}
+use Rattle.first_form.specs.declared.form.Field.{Field}
+use Rattle.first_form.specs.declared.form.Part.{Part}
+use Rattle.first_form.specs.declared.form.Item.{Item}
+use Rattle.first_form.specs.declared.form.Item.TheVariants.{Match, Display}
+use Rattle.first_form.specs.declared.form.Straight.{Straight}
 use Rattle.bits_top.specs.declared.matching.Binding.{Binding}
 use Rattle.bits_top.specs.declared.run.Ending.{Ending}
 use Rattle.bits_top.specs.declared.run.Outcome.{Outcome}
@@ -25,17 +25,9 @@ abbrev pub end_of : Ending → End
 end_of Normal = machine.Normal
 end_of Exhausted = Exit (VAtom (codes "reductions"))
 
--- the bits of a bit expression and of a bit pattern
-abbrev pub parts_bits : List Part → ℕ
-parts_bits parts = sum_by (λ part. part_size part.bits) parts
-
+-- the bits of a bit pattern
 abbrev pub fields_bits : List Field → ℕ
 fields_bits fields = sum_by (λ field. field.bits) fields
-
--- within the bound of a bitstring
-abbrev pub IsShort : Item → Type 0
-IsShort (Match fields parts) = parts_bits parts ≤ 134_217_728
-IsShort (Display variable) = Unit {0}
 
 abbrev pub bounds : List Binding → List Bound
 bounds bindings = map (λ binding. record { variable = binding.variable; value = VInt binding.value }) bindings

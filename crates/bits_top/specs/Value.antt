@@ -2,7 +2,12 @@
 use Rattle.std.specs.Prelude.{ℕ, ℤ, zero, suc, ◌/◌, List, [], ◌∷◌, ◌++◌, Bool, length, take, drop, codes, decimal}
 use Rattle.std.specs.Fmt.{signed_decimal}
 use Rattle.bits_value.specs.Number.{natural}
-use Rattle.bits_top.specs.Form.{separated}
+use Rattle.std.specs.List.{flat_map}
+
+-- the texts in a row, with the separator between each two
+abbrev pub separated : List ℕ → List (List ℕ) → List ℕ
+separated separator [] = []
+separated separator (text ∷ texts) = text ++ flat_map (λ next. separator ++ next) texts
 
 mutual
   pub data Value : Type 0 where

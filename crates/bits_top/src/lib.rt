@@ -3,11 +3,9 @@
 
 mod command;
 mod entry;
-mod form;
 mod matching;
 mod plain;
 mod program;
-mod reader;
 mod run;
 mod status;
 mod streams;

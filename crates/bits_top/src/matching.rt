@@ -2,13 +2,13 @@
 ghost use Rattle.std.specs.Prelude.{◌≡◌, ◌≤◌, ◌+◌, ◌*◌, ◌/◌, ◌++◌, [], ◌∷◌, Some, length, take, drop, IfOk, OnOk, All, sum_by, pos};
 ghost use Rattle.bits_value.specs.Bits.{all_bits, bit_list};
 ghost use Rattle.bits_value.specs.Number.{natural, spell};
-ghost use Rattle.bits_top.specs.Form.{IsField, part_size};
+ghost use Rattle.first_form.specs.Form.{IsField, part_size, parts_bits};
 ghost use Rattle.bits_top.specs.Body.{segments};
-ghost use Rattle.bits_top.specs.Runs.{Binds, Decodes, fields_bits, parts_bits};
+ghost use Rattle.bits_top.specs.Runs.{Binds, Decodes, fields_bits};
 ghost use Rattle.bits_top.specs.Tree.{built};
 
-use crate::form::{Field, Part};
 use bits_value::{Bits, Endian, put};
+use first_form::{Field, Part};
 use std::alloc::{AllocError, Global};
 
 // A variable and the integer that a match bound it to.

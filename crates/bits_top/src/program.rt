@@ -1,16 +1,15 @@
 // The top call: the words of a command line, the ports, the answer.
 ghost use Rattle.std.specs.Prelude.{◌≡◌, ◌≤◌, ◌↔◌, ℕ, List, All, IfOk, map, string_bytes};
-ghost use Rattle.bits_top.specs.Answer.{AnswersAccepted, AnswersCheck, AnswersOk, AnswersRefusal, AnswersRun, ChecksWell, IsDoneOrNoMemory, IsRefusedOrNoMemory, IsRun, IsSmooth, IsSmoothRefusal, Untouched, port};
+ghost use Rattle.bits_top.specs.Answer.{AnswersAccepted, AnswersCheck, AnswersOk, AnswersRefusal, AnswersRun, ChecksWell, IsDoneOrNoMemory, IsRefusedOrNoMemory, IsSmooth, IsSmoothRefusal, RunsEach, Untouched, port};
 ghost use Rattle.bits_top.specs.Command.{Spells};
-ghost use Rattle.bits_top.specs.Form.{IsStraight};
-ghost use Rattle.bits_top.specs.Runs.{IsShort};
+ghost use Rattle.first_form.specs.Form.{IsShort, IsStraight};
 ghost use Rattle.bits_top.specs.declared.command.Command.{Command};
 ghost use Rattle.bits_top.specs.declared.command.Run.{Run};
 
 use crate::command::{Command, command_of};
-use crate::form::Straight;
 use crate::streams::{ReadError, read_all, write_all};
-use crate::{Plain, Status, reader, run, texts};
+use crate::{Plain, Status, run, texts};
+use first_form::{Straight, straight_of};
 use io_ports::{Gate, Place, Sink, Source};
 use module_accept::{Refusal, accept};
 use std::alloc::{AllocError, Global};
@@ -154,12 +153,12 @@ fn run_module<S: Source, A: Sink, B: Sink>(
     if text.len() > TEXT_LIMIT as usize {
         return refuse(report, b"1:1: text too long\n");
     }
-    let _checked = match accept(alloc, &text) {
+    let checked = match accept(alloc, &text) {
         Ok(checked) => checked,
         Err(Refusal::Line(line)) => return refuse(report, &line),
         Err(Refusal::Memory) => return Status::NoMemory,
     };
-    match reader::read(alloc, &text) {
+    match straight_of(alloc, &text, checked.module()) {
         Ok(Some(straight)) => answer(alloc, reductions, &straight, report, order),
         Ok(None) => refuse(report, b"1:1: not built\n"),
         Err(_) => Status::NoMemory,
@@ -188,7 +187,7 @@ fn texts_of(alloc: Global, reductions: u32, straight: &Straight) -> Result<Texts
     requires formed { IsStraight straight.now }
     requires short { All IsShort straight.now.items }
     requires some { 1 ≤ reductions }
-    ensures { IfOk result (λ texts. IsRun straight.now reductions texts.order.items texts.report.items) }
+    ensures { IfOk result (λ texts. RunsEach straight.now reductions texts.order.items texts.report.items) }
 {
     let outcome = run::run(alloc, straight, reductions)?;
     let order = texts::order(alloc, outcome.entries.items())?;

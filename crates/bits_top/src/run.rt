@@ -1,16 +1,16 @@
 // The run of a module: process 1 alone, from the call of `main/0` to its end.
 ghost use Rattle.std.specs.Prelude.{◌≡◌, ◌≤◌, ◌∷◌, ℕ, List, All, Contains, IfOk, OnOk, Some};
-ghost use Rattle.bits_top.specs.Form.{IsItem, IsStraight};
-ghost use Rattle.bits_top.specs.Runs.{Advances, Finishes, HasRun, IsShort, Stands, bounds, known};
+ghost use Rattle.first_form.specs.Form.{IsItem, IsStraight, IsShort};
+ghost use Rattle.bits_top.specs.Runs.{Advances, Finishes, HasRun, Stands, bounds, known};
 ghost use Rattle.bits_top.specs.Tree.{value_in};
 ghost use Rattle.bits_top.specs.Value.{VInt};
-ghost use Rattle.bits_top.specs.declared.form.Item.{Item};
-ghost use Rattle.bits_top.specs.declared.form.Straight.{Straight};
+ghost use Rattle.first_form.specs.declared.form.Item.{Item};
+ghost use Rattle.first_form.specs.declared.form.Straight.{Straight};
 
 use crate::entry::Entry;
-use crate::form::{Item, Straight};
 use crate::matching::{Binding, bind};
 use erl_syntax::Listed;
+use first_form::{Item, Straight};
 use std::alloc::{AllocError, Global};
 
 // How a run ended.

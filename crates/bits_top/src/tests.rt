@@ -101,6 +101,43 @@ fn runs_are_reported_in_their_order(rt: HostRuntime) -> Result<(), Fail> {
 }
 
 #[test]
+fn the_form_is_that_of_the_tokens(rt: HostRuntime) -> Result<(), Fail> {
+    let alloc = rt.alloc();
+    let words = ["run", "m.erl", "o.txt", "2", "1000"];
+    let free =
+        "%% a header\n-module( m ).\n-export([ main / 0 ]).\n\nmain( ) ->\n  <<A:4, B:12>> =\n    <<18, 52>>, % two bytes\n  erlang : display(A),\n  erlang:display(B).";
+    let answer = call(&rt, alloc, &words, free.as_bytes(), [0, 0, 0])?;
+    assert_eq!(rt; answer.status, Status::Done);
+    assert_eq!(rt; answer.report.as_slice(), b"1\n564\n".as_slice());
+    assert_eq!(rt; answer.order.as_slice(), FIRST_ORDER);
+    let rows = [
+        "main() -> <<A:4,B:12>> = <<(18),52>>, erlang:display(A)",
+        "main() -> <<A:4,B:12>> = <<16#12,52>>, erlang:display(A)",
+        "main() -> <<A:8>> = <<$a>>",
+        "main() -> <<A:(8)>> = <<1>>",
+        "main() -> (<<A:16>>) = <<18,52>>, erlang:display(A)",
+        "main() -> <<A:16>> = <<18,52>>, 'erlang':display(A)",
+        "main() -> <<A:16>> = <<18,52>>, erlang:display((A))",
+        "main() -> <<A:16>> = <<18,52>>, <<A:16>> = <<18,52>>",
+        "main() -> <<A:16>> = <<18>>",
+        "main() -> <<A/integer>> = <<18>>, erlang:display(A)",
+        "main() -> <<A:8>> = <<18>>, A",
+        "'main'() -> <<A:8>> = <<1>>",
+        "main() when true -> <<A:8>> = <<1>>",
+        "main() -> <<A:8>> = <<1>>; main() -> <<A:8>> = <<2>>",
+        "main() -> <<A:8>> = <<1>>.\nf() -> ok",
+        "-vsn(1).\nmain() -> <<A:8>> = <<1>>",
+    ];
+    for row in rows {
+        let text = format!(in alloc; "-module(m).\n-export([main/0]).\n{row}.\n")?;
+        let answer = call(&rt, alloc, &words, text.as_bytes(), [0, 0, 0])?;
+        assert_eq!(rt; answer.status, Status::Refused);
+        assert_eq!(rt; answer.report.as_slice(), b"1:1: not built\n".as_slice());
+    }
+    Ok(())
+}
+
+#[test]
 fn each_port_fails_in_turn(rt: HostRuntime) -> Result<(), Fail> {
     let alloc = rt.alloc();
     let rows: [([u64; 3], Status, &[u8], &[u8]); 3] = [

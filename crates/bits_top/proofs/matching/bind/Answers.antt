@@ -1,8 +1,8 @@
 use Rattle.std.proofs.Common.{◌≡◌, ◌∙◌, arith}
+use Rattle.first_form.specs.Form.{parts_bits}
 use Rattle.bits_value.proofs.Written.{bit_list-cut}
 use Rattle.bits_top.specs.Body.{segments}
 use Rattle.bits_top.specs.Tree.{built}
-use Rattle.bits_top.specs.Runs.{parts_bits}
 use Rattle.bits_top.proofs.matching.bind.Goals as goal
 
 pub returns : goal.returns

@@ -1,7 +1,7 @@
 use Rattle.std.proofs.Common.{◌≡◌, take, length}
+use Rattle.first_form.specs.Form.{parts_bits}
 use Rattle.bits_value.specs.Bits.{all_bits}
 use Rattle.bits_top.specs.Body.{segments}
-use Rattle.bits_top.specs.Runs.{parts_bits}
 use Rattle.bits_top.specs.Tree.{built}
 use Rattle.bits_top.proofs.matching.build.Given as goal
 

@@ -1,5 +1,5 @@
 use Rattle.std.proofs.Common.{◌≡◌, take}
-use Rattle.bits_top.specs.Runs.{parts_bits}
+use Rattle.first_form.specs.Form.{parts_bits}
 use Rattle.bits_top.proofs.matching.total.Given as goal
 
 abbrev pub invariant-loop-part : goal.invariant-loop-part

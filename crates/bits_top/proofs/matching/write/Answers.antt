@@ -7,7 +7,7 @@ use Rattle.bits_value.specs.Number.{spell}
 use Rattle.bits_value.specs.declared.Endian.TheVariants.{Big}
 use Rattle.bits_value.proofs.BitLists.{length-big_bits}
 use Rattle.bits_value.proofs.Written.{length-all_bits}
-use Rattle.bits_top.specs.Form.{part_size}
+use Rattle.first_form.specs.Form.{part_size}
 use Rattle.bits_top.proofs.Binding.{written_back, written_front}
 use Rattle.bits_top.proofs.matching.write.Goals as goal
 

@@ -1,6 +1,6 @@
-use Rattle.std.proofs.Common.{◌≤◌, length, codes, refl, ap, ◌∙◌, arith, rules, inl, inr}
-use Rattle.bits_top.proofs.Answers.{refusal_answers, accepted_answers, held_long, unaccepted, whole_of}
-use Rattle.bits_top.proofs.Sizes.{all_short}
+use Rattle.std.proofs.Common.{◌≤◌, length, codes, refl, ap, sym, ◌∙◌, arith, rules, inl, inr}
+use Rattle.bits_top.specs.Answer.{IsTable}
+use Rattle.bits_top.proofs.Answers.{refusal_answers, accepted_answers, form_of, held_long, none_built, only_of, unaccepted, whole_of}
 use Rattle.bits_top.proofs.program.run_module.Goals as goal
 
 pub returns-then-len : goal.returns-then-len
@@ -18,19 +18,22 @@ returns-in-Err-Line g c =
 pub returns-in-Ok-None : goal.returns-in-Ok-None
 returns-in-Ok-None g c =
     let short : length c.in-Ok.text.items ≤ 1_048_576 = omega arith in
-    let whole = whole_of _ c.in-Ok.text.items c.deref.result.now c.in-Ok-accept.checked.tree c.deref.ensures.value c.in-Ok.ensures.read.taken (c.in-Ok.ensures.read.whole short) short c.in-Ok-accept.ensures.accepted in
-    refusal_answers c.refuse-in-Ok-None.result c.args.reductions c.in-Ok.text.items (codes "1:1: not built\n") _ _ _ (inr (record { tree = c.in-Ok-accept.checked.tree; whole = whole; none = search rules; due = refl })) (record { told = refl; count = refl })
+    let tree = c.in-Ok-accept.checked.tree in
+    let whole = whole_of _ c.in-Ok.text.items c.deref.result.now tree c.deref.ensures.value c.in-Ok.ensures.read.taken (c.in-Ok.ensures.read.whole short) short c.in-Ok-accept.ensures.accepted in
+    let only = only_of c.deref.result.now c.in-Ok.text.items tree c.deref.ensures.value c.in-Ok-accept.ensures.only in
+    let none = none_built c.in-Ok.text.items tree only (λ s f. c.in-Ok-None.ensures.none c.in-Ok-None.field-0-is s (form_of c.in-Ok.text.items c.deref-2.result.now tree c.module.result.now s (sym c.deref-2.ensures.value) (sym c.module.ensures.same) f)) in
+    refusal_answers c.refuse-in-Ok-None.result c.args.reductions c.in-Ok.text.items (codes "1:1: not built\n") _ _ _ (inr (record { tree = tree; whole = whole; none = none; due = refl })) (record { told = refl; count = refl })
     c.refuse-in-Ok-None.ensures
 
 pub answer-requires-clause-short : goal.answer-requires-clause-short
-answer-requires-clause-short g c =
-    let short : length c.in-Ok.text.items ≤ 1_048_576 = omega arith in
-    all_short c.in-Ok.text.items c.in-Ok-Some.straight (search rules) short
+answer-requires-clause-short g c = search rules
 
 pub returns-in-Ok-Some : goal.returns-in-Ok-Some
 returns-in-Ok-Some g c =
     let short : length c.in-Ok.text.items ≤ 1_048_576 = omega arith in
-    let whole = whole_of _ c.in-Ok.text.items c.deref.result.now c.in-Ok-accept.checked.tree c.deref.ensures.value c.in-Ok.ensures.read.taken (c.in-Ok.ensures.read.whole short) short c.in-Ok-accept.ensures.accepted in
-    accepted_answers c.answer.result c.args.reductions c.in-Ok.text.items c.in-Ok-Some.straight _ _ _
-    (record { tree = c.in-Ok-accept.checked.tree; whole = whole; form = search rules })
+    let tree = c.in-Ok-accept.checked.tree in
+    let whole = whole_of _ c.in-Ok.text.items c.deref.result.now tree c.deref.ensures.value c.in-Ok.ensures.read.taken (c.in-Ok.ensures.read.whole short) short c.in-Ok-accept.ensures.accepted in
+    let form = form_of c.deref-2.result.now c.in-Ok.text.items c.module.result.now tree c.in-Ok-Some.straight c.deref-2.ensures.value c.module.ensures.same (search rules) in
+    let table : IsTable tree.atoms = record { others = c.in-Ok-accept.ensures.fixed.0; fixed = c.in-Ok-accept.ensures.fixed.1; once = c.in-Ok-accept.ensures.once } in
+    accepted_answers c.answer.result c.args.reductions c.in-Ok.text.items tree _ _ _ (record { whole = whole; straight = c.in-Ok-Some.straight; form = form }) table
     c.answer.ensures

@@ -1,0 +1,17 @@
+-- A run of a module of today's form is a run of the module that the whole language reads from its tree.
+use Rattle.std.proofs.Common.{◌≡◌, ℕ, ◌≤◌, List, ◌++◌, All, sym, subst}
+use Rattle.erl_syntax.specs.Atoms.{fixed_atoms}
+use Rattle.erl_syntax.specs.declared.span.Span.{Span}
+use Rattle.erl_syntax.specs.declared.module.Module.{Module}
+use Rattle.term_value.specs.ReadTrees.{module_of}
+use Rattle.first_form.specs.Form.{IsStraight, IsShort}
+use Rattle.first_form.specs.Numbers.{IsReadAs}
+use Rattle.first_form.specs.declared.form.Straight.{Straight}
+use Rattle.bits_top.proofs.StraightRuns.{IsStraightRun}
+use Rattle.bits_top.specs.Whole.{IsRunOf}
+use Rattle.bits_top.proofs.SameRuns.{same_run}
+
+pub same_run_read : (number_at : Span → ℕ) (m : Module) (others : List (List ℕ)) (s : Straight) (r : ℕ) (order report : List ℕ) → IsReadAs number_at m s → m.atoms ≡ fixed_atoms ++ others →
+    IsStraight s → All IsShort s.items → 1 ≤ r → IsStraightRun s r order report → IsRunOf (module_of number_at m) r order report
+same_run_read number_at m others s r order report read table formed short some run =
+    subst (λ code. IsRunOf code r order report) (sym read.is) (same_run read.number m.atoms others read.name read.main s r order report read.apart table read.first formed short some run)
