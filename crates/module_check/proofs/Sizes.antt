@@ -1,5 +1,5 @@
 -- How much is left to look at: how many parts there are.
-use Rattle.std.proofs.Common.{◌≡◌, ℕ, ◌+◌, ◌<◌, ◌≤◌, List, [], ◌∷◌, ◌++◌, map, reverse, Option, Some, None, refl, ◌∙◌, ap, subst, arith}
+use Rattle.std.proofs.Common.{◌≡◌, ℕ, ◌+◌, ◌<◌, ◌≤◌, List, [], ◌∷◌, ◌++◌, map, reverse, Option, Some, None, refl, ◌∙◌, ap, subst, inl, inr, arith}
 use Rattle.std.proofs.lemmas.List.{reverse-append, map-append}
 use Rattle.erl_syntax.specs.Bindings.{targets}
 use Rattle.erl_syntax.specs.Scopes.{Scope, Part, AnExpr, APattern, ABody, ASegment, with_known, behind, in_guard, to_generate, past_items, generated, past_quals, past_row}
@@ -23,6 +23,9 @@ use Rattle.module_check.specs.declared.scopes.Node.{Node}
 use Rattle.module_check.specs.declared.tasks.Task.{Task}
 use Rattle.module_check.specs.declared.tasks.Walk.{Walk}
 use Rattle.module_check.specs.Tasks.{part_of, Fits, AllFit, Adds}
+use Rattle.std.specs.List.{Contains}
+use Rattle.std.proofs.lemmas.List.Elements.{Contains-append_cases}
+use Rattle.module_check.proofs.Spots.{none_in, only_one}
 use Rattle.module_check.proofs.Walking.{Looked, last_of}
 use Rattle.erl_syntax.specs.declared.checking.CheckFault.{CheckFault}
 use Rattle.erl_syntax.specs.declared.module.Module.{Module}
@@ -283,6 +286,13 @@ smaller s (APattern pt) = (let P : Pattern → Type 0 = λ z. total (inside_patt
 smaller s (ABody is) = (let a = items_total s is in omega (arith, a))
 smaller s (ASegment on last sg) = smaller_segment s on sg
 
+pub within : (ds : List Spot) (d : Spot) → Contains ds d → size_of_part d.part ≤ total ds
+within [] d h = absurd (none_in d h)
+within (e ∷ ds) d h = elim (Contains-append_cases (e ∷ []) ds d h) [
+  | inl k ↦ (let P : Spot → Type 0 = λ z. size_of_part z.part ≤ total (e ∷ ds) in subst P (only_one e d k) (omega arith))
+  | inr k ↦ (let r = within ds d k in omega (arith, r))
+]
+
 abbrev pub left_over : List Task → ℕ
 left_over [] = 0
 left_over (t ∷ ts) = size_of_part (part_of t.part) + left_over ts
@@ -297,11 +307,11 @@ left_total nodes [] (d ∷ ds) h = absurd h
 left_total nodes (t ∷ ts) [] h = absurd h
 left_total nodes (t ∷ ts) (d ∷ ds) h = (let a = left_total nodes ts ds h.1 in let b = ap size_of_part h.0.part in omega (arith, a, b))
 
-pub falls : (m : Module) (f : Function) (w v : Walk) (old rest : List Task) (task : Task) (best : Option CheckFault) → old ≡ rest ++ task ∷ [] → w.tasks.items ≡ rest
-    → ((d : Spot) → Fits w.nodes.items task d → Adds w v (inside d.scope d.part)) → Looked m f w.nodes.items old best → left_over v.tasks.items < left_over old
-falls m f w v old rest task best e g adds l =
-    let P : List Task → Type 0 = λ zs. AllFit w.nodes.items zs l.spots in
-    let p = last_of w.nodes.items rest task l.spots (subst P e l.fit) in
+pub falls_by : (w v : Walk) (old rest : List Task) (task : Task) (spots : List Spot) → old ≡ rest ++ task ∷ [] → w.tasks.items ≡ rest
+    → ((d : Spot) → Fits w.nodes.items task d → Adds w v (inside d.scope d.part)) → AllFit w.nodes.items old spots → left_over v.tasks.items < left_over old
+falls_by w v old rest task spots e g adds fit =
+    let P : List Task → Type 0 = λ zs. AllFit w.nodes.items zs spots in
+    let p = last_of w.nodes.items rest task spots (subst P e fit) in
     let d = p.one in
     let a = adds d p.fits in
     let new : left_over v.tasks.items ≡ left_over rest + left_over a.added = ap left_over (a.is ∙ ap (λ zs. zs ++ a.added) g) ∙ left_joined rest a.added in
@@ -310,3 +320,7 @@ falls m f w v old rest task best e g adds l =
     let less = smaller d.scope d.part in
     let same = ap size_of_part p.fits.part in
     omega (arith, new, before, added, less, same)
+
+pub falls : (m : Module) (f : Function) (w v : Walk) (old rest : List Task) (task : Task) (best : Option CheckFault) → old ≡ rest ++ task ∷ [] → w.tasks.items ≡ rest
+    → ((d : Spot) → Fits w.nodes.items task d → Adds w v (inside d.scope d.part)) → Looked m f w.nodes.items old best → left_over v.tasks.items < left_over old
+falls m f w v old rest task best e g adds l = falls_by w v old rest task l.spots e g adds l.fit

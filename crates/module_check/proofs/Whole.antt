@@ -35,13 +35,13 @@ use Rattle.module_check.specs.Faults.{rest, HeadFault, IsAmong, ClausesFault, Fi
 use Rattle.module_check.proofs.Complete.{complete}
 use Rattle.module_check.proofs.Sound.{root_stands, under_stands}
 
-out_var : (e : Expr) (at : Span) (name : List ℕ) → e ≡ x.Var at name → out-Expr e ≡ O.Expr::Var at name
+pub out_var : (e : Expr) (at : Span) (name : List ℕ) → e ≡ x.Var at name → out-Expr e ≡ O.Expr::Var at name
 out_var e at name h = ap out-Expr (h ∙ sym (x.rolls-Var at name)) ∙ out-roll-Expr (O.Expr::Var at name)
 
 out_call : (e : Expr) (at : Span) (home : List Expr) (name : ℕ) (args : List Expr) → e ≡ x.Call at home name args → out-Expr e ≡ O.Call at home name args
 out_call e at home name args h = ap out-Expr (h ∙ sym (x.rolls-Call at home name args)) ∙ out-roll-Expr (O.Call at home name args)
 
-out_target : (pt : Pattern) (at : Span) (name : List ℕ) → pt ≡ p.Var at name → out-Pattern pt ≡ O.Pattern::Var at name
+pub out_target : (pt : Pattern) (at : Span) (name : List ℕ) → pt ≡ p.Var at name → out-Pattern pt ≡ O.Pattern::Var at name
 out_target pt at name h = ap out-Pattern (h ∙ sym (p.rolls-Var at name)) ∙ out-roll-Pattern (O.Pattern::Var at name)
 
 module _ (m : Module) where

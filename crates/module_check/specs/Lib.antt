@@ -1,7 +1,9 @@
 pub mod Faults
 pub mod Index
 pub mod Nodes
+pub mod Numbers
 pub mod Order
+pub mod Places
 pub mod Spots
 pub mod Tasks
 pub mod Unsafe

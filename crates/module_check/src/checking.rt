@@ -1,14 +1,16 @@
-ghost use Rattle.std.specs.Prelude.{◌≡◌, ◌<◌, ◌⊎◌, IfOk, IfErr, MatchOption, length};
-ghost use Rattle.erl_syntax.specs.Checking.{IsAccepted, IsFirstFault};
+ghost use Rattle.std.specs.Prelude.{◌≡◌, ◌<◌, ◌⊎◌, All, IfOk, IfErr, MatchOption, length};
+ghost use Rattle.erl_syntax.specs.Checking.{IsAccepted, IsFirstFault, AreNumbered};
 ghost use Rattle.erl_syntax.specs.declared.checking.CheckCause.TheVariants.{NoMemory};
 ghost use Rattle.module_check.specs.Order.{IsLeast, Below};
 ghost use Rattle.module_check.specs.Faults.{FunctionFault, AnyFault};
+ghost use Rattle.module_check.specs.Places.{StandApart};
 
 use crate::forms::{clauses_fault, end_fault, exports_fault, heads_fault};
 use crate::index::Indexed;
+use crate::numbers::vars;
 use crate::order::first_of;
 use crate::walk::inner_fault;
-use erl_syntax::{CheckCause, CheckFault, Module, Span};
+use erl_syntax::{CheckCause, CheckFault, Module, Span, VarUse};
 use std::alloc::{AllocError, Global};
 
 /// The first fault of the function at this place among the module's.
@@ -52,11 +54,13 @@ fn any_fault(alloc: Global, tree: &Module) -> Result<Option<CheckFault>, AllocEr
     Ok(first_of(forms, rest))
 }
 
-/// A module that is refused nothing.
+/// A module that is refused nothing, with its variables' numbers.
 #[derive(Debug, Drop)]
 pub struct Checked {
     tree: Module,
+    vars: Vec<VarUse>,
     ghost accepted: { IsAccepted tree },
+    ghost numbered: { All StandApart tree.functions → ∥ AreNumbered tree.functions vars.items ∥₁ },
 }
 
 impl Checked {
@@ -67,6 +71,16 @@ impl Checked {
     {
         &self.tree
     }
+
+    /// The variables of the module's functions but `_`, in the order of the text, one function behind another: each variable's
+    /// number in its function, which is how many get their values further left, and whether it gets its value here.
+    ///
+    /// This holds where no two variables of a function stand at one place, and no text has two there.
+    pub fn vars(&self) -> &[VarUse]
+        ensures { All StandApart self.now.tree.functions → ∥ AreNumbered self.now.tree.functions result.now ∥₁ }
+    {
+        &self.vars
+    }
 }
 
 fn out_of_memory(_: AllocError) -> CheckFault
@@ -75,6 +89,18 @@ fn out_of_memory(_: AllocError) -> CheckFault
     CheckFault {
         span: Span { line: 1, column: 1 },
         why: CheckCause::NoMemory,
+    }
+}
+
+/// Numbers the variables of a module that is accepted.
+fn numbered(alloc: Global, tree: Module) -> Result<Checked, CheckFault>
+    requires { IsAccepted tree }
+    ensures same { IfOk result (λ checked. checked.tree ≡ tree) }
+    ensures memory { IfErr result (λ fault. fault.why ≡ NoMemory) }
+{
+    match vars(alloc, &tree) {
+        Ok(vars) => Ok(Checked { tree, vars }),
+        Err(error) => Err(out_of_memory(error)),
     }
 }
 
@@ -89,7 +115,7 @@ pub fn check(alloc: Global, tree: Module) -> Result<Checked, CheckFault>
     ensures refused { IfErr result (λ fault. (fault.why ≡ NoMemory) ⊎ IsFirstFault tree fault.span fault.why) }
 {
     match any_fault(alloc, &tree) {
-        Ok(None) => Ok(Checked { tree }),
+        Ok(None) => numbered(alloc, tree),
         Ok(Some(fault)) => Err(fault),
         Err(error) => Err(out_of_memory(error)),
     }

@@ -7,8 +7,10 @@ mod checking;
 mod forms;
 mod index;
 mod names;
+mod numbers;
 mod order;
 mod own;
+mod places;
 mod scopes;
 mod targets;
 mod tasks;
@@ -22,3 +24,5 @@ pub use order::first_of;
 
 #[cfg(test)]
 mod tests;
+#[cfg(test)]
+mod vars_tests;

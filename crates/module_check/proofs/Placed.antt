@@ -1,0 +1,186 @@
+-- The variables of a function, by the part to which they belong.
+use Rattle.std.proofs.Common.{◌≡◌, ℕ, ◌<◌, List, [], ◌∷◌, ◌++◌, Option, Some, None, refl, sym, ◌∙◌, ap, subst, ◌⊎◌, inl, inr}
+use Rattle.std.specs.List.{Contains}
+use Rattle.std.specs.Option.{option_to_list}
+use Rattle.std.proofs.lemmas.List.Elements.{Contains-append_left, Contains-append_right, Contains-append_cases, Contains-push}
+use Rattle.erl_syntax.specs.Bindings.{Bound}
+use Rattle.erl_syntax.specs.Scopes
+use Rattle.erl_syntax.specs.Scopes.{Scope, AnExpr, APattern, ABody, ASegment, Stands, IsKnown, Found}
+use Rattle.erl_syntax.specs.Checking.{Place}
+use Rattle.erl_syntax.specs.declared.span.Span.{Span}
+use Rattle.erl_syntax.specs.declared.expr.Expr.{Expr, out-Expr, out-roll-Expr}
+use Rattle.erl_syntax.specs.declared.expr.Expr.TheVariants as x
+use Rattle.erl_syntax.specs.declared.expr.Expr.TheOpen as O
+use Rattle.erl_syntax.specs.declared.pattern.Pattern.{Pattern, out-Pattern, out-roll-Pattern}
+use Rattle.erl_syntax.specs.declared.pattern.Pattern.TheVariants as p
+use Rattle.erl_syntax.specs.declared.segment.Segment.{Segment}
+use Rattle.erl_syntax.specs.declared.qual.Qual.{Qual}
+use Rattle.erl_syntax.specs.declared.clause.Item.{Item}
+use Rattle.erl_syntax.specs.declared.clause.Guard.{Guard}
+use Rattle.erl_syntax.specs.declared.clause.Alt.{Alt}
+use Rattle.erl_syntax.specs.declared.clause.Branch.{Branch}
+use Rattle.erl_syntax.specs.declared.module.Function.{Function}
+use Rattle.erl_syntax.specs.declared.typing.SideUse.{SideUse}
+use Rattle.module_check.specs.declared.scopes.Node.{Node}
+use Rattle.module_check.specs.declared.places.Occurrence.{Occurrence}
+use Rattle.module_check.specs.declared.tasks.Task.{Task}
+use Rattle.module_check.specs.declared.tasks.Walk.{Walk}
+use Rattle.module_check.specs.Nodes.{Chain, Sees}
+use Rattle.module_check.specs.Spots.{Spot, inside, clauses_in, Under, here, deeper, IsUnder}
+use Rattle.module_check.specs.Tasks.{Fits, AllFit, Adds}
+use Rattle.module_check.specs.Places.{seen, kept, Reads, Meets, ExprPlace, PatternPlace, ValuePlace, SegmentPlace, OwnPlace, InnerPlace, IsOnly, AreAll}
+use Rattle.module_check.proofs.Chained.{found_known, one_place_of, same_known, flip}
+use Rattle.module_check.proofs.Spots.{none_in, only_one}
+use Rattle.module_check.proofs.Complete.{one_more}
+use Rattle.module_check.proofs.Sizes.{left_over, falls_by}
+use Rattle.module_check.proofs.Tasked.{all_grown, all_joined}
+use Rattle.module_check.proofs.Walking.{last_of}
+
+same_place : (a : Place) (at bound_at : Span) → a.at ≡ at → a.bound_at ≡ bound_at → a ≡ record { at = at; bound_at = bound_at }
+same_place a at bound_at e h =
+    let f : Span → Place = λ z. record { at = z; bound_at = a.bound_at } in
+    let g : Span → Place = λ z. record { at = at; bound_at = z } in
+    ap f e ∙ ap g h
+
+only_this : (Holds : Place → Type 0) (o : Occurrence) (a : Place) → seen o ≡ a → Holds a → ((b : Place) → Holds b → b ≡ a) → IsOnly Holds (Some o)
+only_this Holds o a e h k = (subst Holds (sym e) h, λ b z. k b z ∙ sym e)
+
+-- what a look-up says of a variable
+module _ (nodes : List Node) (last : ℕ) (at : Span) (name : List ℕ) where
+  pub read_found : (bound_at : Span) (o : Occurrence) → seen o ≡ record { at = at; bound_at = bound_at } → ((bs : List Bound) → Chain nodes last bs → Found bs name bound_at) → (known : List Bound) → Sees nodes last known → IsOnly (Reads known at name) (Some o)
+  read_found bound_at o e found known s =
+      let here : Found known name bound_at = s.same.to name bound_at (found s.chain s.stands) in
+      only_this (Reads known at name) o (record { at = at; bound_at = bound_at }) e (refl, here) (λ b z. same_place b at bound_at z.0 (one_place_of known name b.bound_at bound_at z.1 here))
+
+  unknown : ((bs : List Bound) → Chain nodes last bs → IsKnown bs name → ⊥) → (known : List Bound) → Sees nodes last known → IsKnown known name → ⊥
+  unknown h known s k = h s.chain s.stands (same_known known s.chain name (flip s.chain known s.same) k)
+
+  pub read_none : ((bs : List Bound) → Chain nodes last bs → IsKnown bs name → ⊥) → (known : List Bound) → Sees nodes last known → IsOnly (Reads known at name) None
+  read_none h known s = λ a z. unknown h known s (found_known known name a.bound_at z.1)
+
+  pub met_found : (bound_at : Span) (o : Occurrence) → seen o ≡ record { at = at; bound_at = bound_at } → ((bs : List Bound) → Chain nodes last bs → Found bs name bound_at) → (known : List Bound) → Sees nodes last known → IsOnly (Meets known at name) (Some o)
+  met_found bound_at o e found known s =
+      let here : Found known name bound_at = s.same.to name bound_at (found s.chain s.stands) in
+      only_this (Meets known at name) o (record { at = at; bound_at = bound_at }) e (refl, inl here) (λ b z. same_place b at bound_at z.0 (elim z.1 [
+        | inl k ↦ one_place_of known name b.bound_at bound_at k here
+        | inr k ↦ absurd (k.0 (found_known known name bound_at here))
+      ]))
+
+  pub met_new : (o : Occurrence) → seen o ≡ record { at = at; bound_at = at } → ((bs : List Bound) → Chain nodes last bs → IsKnown bs name → ⊥) → (known : List Bound) → Sees nodes last known → IsOnly (Meets known at name) (Some o)
+  met_new o e h known s =
+      let new = unknown h known s in
+      only_this (Meets known at name) o (record { at = at; bound_at = at }) e (refl, inr (new, refl)) (λ b z. same_place b at at z.0 (elim z.1 [
+        | inl k ↦ absurd (new (found_known known name b.bound_at k))
+        | inr k ↦ k.1
+      ]))
+
+-- the form of a part
+pub at_var : (s : Scope) (e : Expr) (at : Span) (name : List ℕ) (r : Option Occurrence) → e ≡ x.Var at name → IsOnly (Reads s.known at name) r → IsOnly (ExprPlace s (out-Expr e)) r
+at_var s e at name r h k =
+    let P : O.Expr-F Expr Pattern Qual Alt Branch Guard Item Segment → Type 0 = λ v. IsOnly (ExprPlace s v) r in
+    subst P (sym (ap out-Expr (h ∙ sym (x.rolls-Var at name)) ∙ out-roll-Expr (O.Expr::Var at name))) k
+
+pub at_value : (s : Scope) (e : Expr) (at : Span) (name : List ℕ) (r : Option Occurrence) → e ≡ x.Var at name → IsOnly (Meets s.known at name) r → IsOnly (ValuePlace s (out-Expr e)) r
+at_value s e at name r h k =
+    let P : O.Expr-F Expr Pattern Qual Alt Branch Guard Item Segment → Type 0 = λ v. IsOnly (ValuePlace s v) r in
+    subst P (sym (ap out-Expr (h ∙ sym (x.rolls-Var at name)) ∙ out-roll-Expr (O.Expr::Var at name))) k
+
+pub at_pattern : (s : Scope) (e : Pattern) (at : Span) (name : List ℕ) (r : Option Occurrence) → e ≡ p.Var at name → IsOnly (Meets s.known at name) r → IsOnly (PatternPlace s (out-Pattern e)) r
+at_pattern s e at name r h k =
+    let P : O.Pattern-F Expr Pattern Qual Alt Branch Guard Item Segment → Type 0 = λ v. IsOnly (PatternPlace s v) r in
+    subst P (sym (ap out-Pattern (h ∙ sym (p.rolls-Var at name)) ∙ out-roll-Pattern (O.Pattern::Var at name))) k
+
+pub on_side : (s : Scope) (on : SideUse) (sg : Segment) (to : SideUse) (r : Option Occurrence) → on ≡ to → IsOnly (SegmentPlace s to sg) r → IsOnly (SegmentPlace s on sg) r
+on_side s on sg to r e h = let P : SideUse → Type 0 = λ v. IsOnly (SegmentPlace s v sg) r in subst P (sym e) h
+
+pub own_part : (s : Scope) (y z : Scopes.Part) (r : Option Occurrence) → z ≡ y → IsOnly (OwnPlace s z) r → IsOnly (OwnPlace s y) r
+own_part s y z r e h = let P : Scopes.Part → Type 0 = λ v. IsOnly (OwnPlace s v) r in subst P e h
+
+-- what is looked at, and what is left
+pub record Reached (f : Function) (nodes : List Node) (tasks : List Task) (found : List Occurrence) : Type 0 where
+  pub spots : List Spot
+  pub fit : AllFit nodes tasks spots
+  pub stand : (d : Spot) → Contains spots d → IsUnder f d
+  pub told : (o : Occurrence) → Contains found o → InnerPlace f (seen o)
+  pub covers : (d : Spot) → IsUnder f d → ((a : Place) → OwnPlace d.scope d.part a → Contains found (kept a)) ⊎ ((e : Spot) × (Contains spots e × Under e d))
+
+pub start : (f : Function) (w v : Walk) (found : List Occurrence) → w.tasks.items ≡ [] → found ≡ [] → Adds w v (clauses_in f) → Reached f v.nodes.items v.tasks.items found
+start f w v found e none a =
+    let P : List Task → Type 0 = λ zs. AllFit v.nodes.items zs (clauses_in f) in
+    record {
+      spots = clauses_in f;
+      fit = subst P (sym (a.is ∙ ap (λ zs. zs ++ a.added) e)) a.fit;
+      stand = λ d h. record { root = d; among = h; under = here d d refl };
+      told = λ o h. absurd (let Q : List Occurrence → Type 0 = λ zs. Contains zs o in none_in o (subst Q none h));
+      covers = λ d h. inr (h.root, (h.among, h.under));
+    }
+
+module _ (f : Function) (d0 : Spot) (found : List Occurrence) (own : Option Occurrence) (only : IsOnly (OwnPlace d0.scope d0.part) own) where
+  told_one : (stood : IsUnder f d0) (r : Option Occurrence) → IsOnly (OwnPlace d0.scope d0.part) r → (o : Occurrence) → Contains (option_to_list r) o → InnerPlace f (seen o)
+  told_one stood None k o h = absurd (none_in o h)
+  told_one stood (Some y) k o h = (d0, (stood, (let P : Occurrence → Type 0 = λ z. OwnPlace d0.scope d0.part (seen z) in subst P (only_one y o h) k.0)))
+
+  own_in : (r : Option Occurrence) → IsOnly (OwnPlace d0.scope d0.part) r → (a : Place) → OwnPlace d0.scope d0.part a → Contains (found ++ option_to_list r) (kept a)
+  own_in None k a h = absurd (k a h)
+  own_in (Some y) k a h = let P : Occurrence → Type 0 = λ z. Contains (found ++ y ∷ []) z in subst P (sym (ap kept (k.1 a h))) (Contains-push found y)
+
+  by_under : (d : Spot) (before : List Spot) → Under d0 d → ((a : Place) → OwnPlace d.scope d.part a → Contains (found ++ option_to_list own) (kept a)) ⊎ ((e : Spot) × (Contains (before ++ inside d0.scope d0.part) e × Under e d))
+  by_under d before (here _ _ e) = inl (λ a z. own_in own only a (let S : Spot → Type 0 = λ v. OwnPlace v.scope v.part a in subst S (sym e) z))
+  by_under d before (deeper _ b _ i u) = inr (b, (Contains-append_right before (inside d0.scope d0.part) b i, u))
+
+  cover : (d : Spot) (before : List Spot) (e : Spot) → Contains (before ++ d0 ∷ []) e → Under e d → ((a : Place) → OwnPlace d.scope d.part a → Contains (found ++ option_to_list own) (kept a)) ⊎ ((e : Spot) × (Contains (before ++ inside d0.scope d0.part) e × Under e d))
+  cover d before e h u = elim (Contains-append_cases before (d0 ∷ []) e h) [
+    | inl k ↦ inr (e, (Contains-append_left before (inside d0.scope d0.part) e k, u))
+    | inr k ↦ by_under d before (let S : Spot → Type 0 = λ v. Under v d in subst S (sym (only_one d0 e k)) u)
+  ]
+
+pub step : (f : Function) (w v : Walk) (old rest : List Task) (task : Task) (found new : List Occurrence) (own : Option Occurrence) → old ≡ rest ++ task ∷ [] → w.tasks.items ≡ rest
+    → ((d : Spot) → Fits w.nodes.items task d → IsOnly (OwnPlace d.scope d.part) own) → new ≡ found ++ option_to_list own → ((d : Spot) → Fits w.nodes.items task d → Adds w v (inside d.scope d.part))
+    → Reached f w.nodes.items old found → Reached f v.nodes.items v.tasks.items new
+step f w v old rest task found new own e g o is adds l =
+    let P : List Task → Type 0 = λ zs. AllFit w.nodes.items zs l.spots in
+    let p = last_of w.nodes.items rest task l.spots (subst P e l.fit) in
+    let d0 = p.one in
+    let a = adds d0 p.fits in
+    let ins = inside d0.scope d0.part in
+    let Q : List Spot → Type 0 = λ zs. Contains zs d0 in
+    let stood : IsUnder f d0 = l.stand d0 (subst Q (sym p.is) (Contains-push p.before d0)) in
+    let R : List Task → Type 0 = λ zs. AllFit v.nodes.items zs (p.before ++ ins) in
+    let only = o d0 p.fits in
+    let T : List Occurrence → Type 0 = λ zs. Reached f v.nodes.items v.tasks.items zs in
+    subst T (sym is) (record {
+      spots = p.before ++ ins;
+      fit = subst R (sym (a.is ∙ ap (λ zs. zs ++ a.added) g)) (all_joined v.nodes.items rest a.added p.before ins (all_grown w.nodes.items v.nodes.items rest p.before a.grown p.fit) a.fit);
+      stand = λ d h. elim (Contains-append_cases p.before ins d h) [
+        | inl k ↦ l.stand d (let S : List Spot → Type 0 = λ zs. Contains zs d in subst S (sym p.is) (Contains-append_left p.before (d0 ∷ []) d k))
+        | inr k ↦ one_more f d0 d stood k
+      ];
+      told = λ y h. elim (Contains-append_cases found (option_to_list own) y h) [
+        | inl k ↦ l.told y k
+        | inr k ↦ told_one f d0 found own only stood own only y k
+      ];
+      covers = λ d h. elim (l.covers d h) [
+        | inl k ↦ inl (λ b z. Contains-append_left found (option_to_list own) (kept b) (k b z))
+        | inr k ↦ cover f d0 found own only d p.before k.0 (let S : List Spot → Type 0 = λ zs. Contains zs k.0 in subst S p.is k.1.0) k.1.1
+      ];
+    })
+
+none_fit : (nodes : List Node) (spots : List Spot) → AllFit nodes [] spots → spots ≡ []
+none_fit nodes [] h = refl
+none_fit nodes (d ∷ ds) h = absurd h
+
+pub finish : (f : Function) (nodes : List Node) (tasks : List Task) (found : List Occurrence) → tasks ≡ [] → Reached f nodes tasks found → AreAll (InnerPlace f) found
+finish f nodes tasks found e l =
+    let P : List Task → Type 0 = λ zs. AllFit nodes zs l.spots in
+    let none = none_fit nodes l.spots (subst P e l.fit) in
+    record {
+      hold = l.told;
+      whole = λ a k. elim (l.covers k.0 k.1.0) [
+        | inl z ↦ z a k.1.1
+        | inr z ↦ absurd (let S : List Spot → Type 0 = λ zs. Contains zs z.0 in none_in z.0 (subst S none z.1.0))
+      ];
+    }
+
+pub falls : (f : Function) (w v : Walk) (old rest : List Task) (task : Task) (found : List Occurrence) → old ≡ rest ++ task ∷ [] → w.tasks.items ≡ rest
+    → ((d : Spot) → Fits w.nodes.items task d → Adds w v (inside d.scope d.part)) → Reached f w.nodes.items old found → left_over v.tasks.items < left_over old
+falls f w v old rest task found e g adds l = falls_by w v old rest task l.spots e g adds l.fit

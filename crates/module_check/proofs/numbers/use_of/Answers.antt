@@ -1,0 +1,5 @@
+use Rattle.module_check.proofs.Numbered.{use_is}
+use Rattle.module_check.proofs.numbers.use_of.Goals as goal
+
+pub returns : goal.returns
+returns c = λ s h. use_is c.args.binders.now c.args.occurrence.now (record { number = c.in_ok-number_of.field-0; binds = c.eq.result }) (c.in_ok-number_of.ensures s h) c.eq.ensures
