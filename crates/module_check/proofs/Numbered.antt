@@ -19,7 +19,7 @@ use Rattle.erl_syntax.specs.declared.checking.VarUse.{VarUse}
 use Rattle.module_check.specs.declared.places.Position.{Position}
 use Rattle.module_check.specs.declared.places.Occurrence.{Occurrence}
 use Rattle.module_check.specs.Numbers.{position_cmp, occurrence_cmp, same_position, binder_in, binders_in}
-use Rattle.module_check.specs.Places.{span_of, position_of, seen, kept, InnerPlace, AreAll, StandApart}
+use Rattle.module_check.specs.Places.{span_of, position_of, seen, kept, InnerPlace, AreAll, Apart}
 use Rattle.module_check.proofs.Ordered.{position_total, same_line, position_is, position_same}
 use Rattle.module_check.proofs.Spots.{Contains-head, Contains-tail, none_in, only_one}
 use Rattle.module_check.proofs.Backed.{binder}
@@ -53,10 +53,7 @@ less_or Less p h = inl refl
 less_or Equal p h = inr (refl, h)
 less_or Greater p h = cc
 
-abbrev Apart : List Occurrence → Type 0
-Apart os = (a b : Occurrence) → Contains os a → Contains os b → a.at ≡ b.at → a.bound_at ≡ b.bound_at
-
-apart_less : (a b : Occurrence) → occurrence_cmp a b ≡ Less → (a.at ≡ b.at → a.bound_at ≡ b.bound_at) → position_cmp a.at b.at ≡ Less
+pub apart_less : (a b : Occurrence) → occurrence_cmp a b ≡ Less → (a.at ≡ b.at → a.bound_at ≡ b.bound_at) → position_cmp a.at b.at ≡ Less
 apart_less a b h k = elim (less_or (position_cmp a.at b.at) (position_cmp a.bound_at b.bound_at) h) [
   | inl e ↦ e
   | inr e ↦ absurd (let P : Position → Type 0 = λ z. position_cmp a.bound_at z ≡ Less in
@@ -192,15 +189,12 @@ binders_more os i o bs new t l e g n h =
     n ∙ ap (λ z. bs ++ cond z (o.at ∷ []) []) g ∙ ap (λ zs. zs ++ binder_in o) h ∙ flat_more binder_in os i o [] (binders_in (take i os)) (binders_in (take i os) ++ binder_in o) l e refl refl
 
 -- the variables of a function
-module _ (f : Function) (found os : List Occurrence) (all : AreAll (InnerPlace f) found) (same : (o : Occurrence) → Contains found o ↔ Contains os o) (alone : StandApart f) where
+module _ (f : Function) (found os : List Occurrence) (all : AreAll (InnerPlace f) found) (same : (o : Occurrence) → Contains found o ↔ Contains os o) (apart : Apart os) where
   is_place : (o : Occurrence) → Contains os o → IsPlace f (seen o)
   is_place o h = from_inner f (seen o) (all.hold o ((same o).1 h))
 
   has_place : (a : Place) → IsPlace f a → Contains os (kept a)
   has_place a h = (same (kept a)).0 (all.whole a (to_inner f a h))
-
-  apart : Apart os
-  apart a b h k e = ap position_of (alone (seen a) (seen b) (is_place a h) (is_place b k) (ap span_of e))
 
   has_binders : (o : Occurrence) → Contains os o → Contains (binders_in os) o.bound_at
   has_binders o h = has_binder os (record { at = o.bound_at; bound_at = o.bound_at }) (has_place (record { at = span_of o.bound_at; bound_at = span_of o.bound_at }) (binder f (seen o) (is_place o h))) refl
@@ -228,23 +222,21 @@ module _ (f : Function) (found os : List Occurrence) (all : AreAll (InnerPlace f
   }
 
 pub numbered : (f : Function) (found os : List Occurrence) (bs : List Position) (us : List VarUse) → AreAll (InnerPlace f) found → IsStrictlySortedBy occurrence_cmp os → ((o : Occurrence) → Contains found o ↔ Contains os o) → bs ≡ binders_in os
-    → (IsStrictlySortedBy position_cmp bs → ((o : Occurrence) → Contains os o → Contains bs o.bound_at) → Uses (map span_of bs) (map seen os) us) → StandApart f → IsNumbered f us
-numbered f found os bs us all s same e u alone =
+    → (IsStrictlySortedBy position_cmp bs → ((o : Occurrence) → Contains os o → Contains bs o.bound_at) → Uses (map span_of bs) (map seen os) us) → Apart os → IsNumbered f us
+numbered f found os bs us all s same e u apart =
     let P : List Position → Type 0 = λ zs. IsStrictlySortedBy position_cmp zs → ((o : Occurrence) → Contains os o → Contains zs o.bound_at) → Uses (map span_of zs) (map seen os) us in
-    numbered_by f found os all same alone us s (subst P e u (sorted_binders os s (apart f found os all same alone)) (has_binders f found os all same alone))
+    numbered_by f found os all same apart us s (subst P e u (sorted_binders os s apart) (has_binders f found os all same apart))
 
 -- those of several functions
 functions_more : (fs : List Function) (f : Function) (vs us : List VarUse) → AreNumbered fs vs → IsNumbered f us → AreNumbered (fs ++ f ∷ []) (vs ++ us)
 functions_more _ f _ us (AreNumbered.none) n = (let P : List VarUse → Type 0 = λ zs. AreNumbered (f ∷ []) zs in subst P (append-nil us) (AreNumbered.and_then f [] us [] n AreNumbered.none))
 functions_more _ f _ us (AreNumbered.and_then g fs front back h k) n = (let P : List VarUse → Type 0 = λ zs. AreNumbered (g ∷ (fs ++ f ∷ [])) zs in subst P (sym (append_assoc front back us)) (AreNumbered.and_then g (fs ++ f ∷ []) front (back ++ us) h (functions_more fs f back us k n)))
 
-pub functions_on : (fs gs : List Function) (i : ℕ) (f : Function) (vs new us : List VarUse) → gs ≡ fs → i < length gs → f ≡ get_or gs i f → new ≡ vs ++ us → (StandApart f → IsNumbered f us) → (All StandApart fs → AreNumbered (take i gs) vs) → All StandApart fs → AreNumbered (take (i + 1) gs) new
-functions_on fs gs i f vs new us g l e n k h a =
+pub functions_on : (fs gs : List Function) (i : ℕ) (f : Function) (vs new us : List VarUse) → gs ≡ fs → i < length gs → f ≡ get_or gs i f → new ≡ vs ++ us → IsNumbered f us → AreNumbered (take i gs) vs → AreNumbered (take (i + 1) gs) new
+functions_on fs gs i f vs new us g l e n k h =
     let P : List Function → Type 0 = λ zs. AreNumbered zs new in
     let Q : List VarUse → Type 0 = λ zs. AreNumbered (take i gs ++ f ∷ []) zs in
-    let R : List Function → Type 0 = λ zs. All StandApart zs in
-    let here : StandApart f = subst StandApart (sym e) (subst R (sym g) a i f l) in
-    subst P (sym (take_more gs i f l ∙ ap (λ z. take i gs ++ z ∷ []) (sym e))) (subst Q (sym n) (functions_more (take i gs) f vs us (h a) (k here)))
+    subst P (sym (take_more gs i f l ∙ ap (λ z. take i gs ++ z ∷ []) (sym e))) (subst Q (sym n) (functions_more (take i gs) f vs us h k))
 
-pub functions_end : (fs gs : List Function) (i : ℕ) (vs : List VarUse) → gs ≡ fs → length gs ≤ i → (All StandApart fs → AreNumbered (take i gs) vs) → All StandApart fs → AreNumbered fs vs
-functions_end fs gs i vs g l h a = let P : List Function → Type 0 = λ zs. AreNumbered zs vs in subst P (take_all i gs l ∙ g) (h a)
+pub functions_end : (fs gs : List Function) (i : ℕ) (vs : List VarUse) → gs ≡ fs → length gs ≤ i → AreNumbered (take i gs) vs → AreNumbered fs vs
+functions_end fs gs i vs g l h = let P : List Function → Type 0 = λ zs. AreNumbered zs vs in subst P (take_all i gs l ∙ g) h

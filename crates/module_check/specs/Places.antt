@@ -3,7 +3,7 @@ use Rattle.std.specs.Prelude.{◌≡◌, ℕ, List, Option, Some, None, ◌⊎�
 use Rattle.std.specs.List.{Contains}
 use Rattle.erl_syntax.specs.Bindings.{Bound}
 use Rattle.erl_syntax.specs.Scopes.{Scope, Part, AnExpr, APattern, ABody, ASegment, Found, IsKnown}
-use Rattle.erl_syntax.specs.Checking.{Place, IsPlace}
+use Rattle.erl_syntax.specs.Checking.{Place}
 use Rattle.erl_syntax.specs.declared.span.Span.{Span}
 use Rattle.erl_syntax.specs.declared.expr.Expr.{Expr, out-Expr}
 use Rattle.erl_syntax.specs.declared.expr.Expr.TheOpen as O
@@ -79,6 +79,6 @@ pub record AreAll (Holds : Place → Type 0) (found : List Occurrence) : Type 0 
   pub hold : (o : Occurrence) → Contains found o → Holds (seen o)
   pub whole : (a : Place) → Holds a → Contains found (kept a)
 
--- no two variables of the function stand at one place
-abbrev pub StandApart : Function → Type 0
-StandApart f = (a b : Place) → IsPlace f a → IsPlace f b → a.at ≡ b.at → a.bound_at ≡ b.bound_at
+-- no two variables stand at one place: where two stand is the same only where they are one
+abbrev pub Apart : List Occurrence → Type 0
+Apart os = (a b : Occurrence) → Contains os a → Contains os b → a.at ≡ b.at → a.bound_at ≡ b.bound_at

@@ -1,9 +1,8 @@
-ghost use Rattle.std.specs.Prelude.{◌≡◌, ◌<◌, ◌⊎◌, All, IfOk, IfErr, MatchOption, length};
+ghost use Rattle.std.specs.Prelude.{◌≡◌, ◌<◌, ◌⊎◌, IfOk, IfErr, MatchOption, length};
 ghost use Rattle.erl_syntax.specs.Checking.{IsAccepted, IsFirstFault, AreNumbered};
 ghost use Rattle.erl_syntax.specs.declared.checking.CheckCause.TheVariants.{NoMemory};
 ghost use Rattle.module_check.specs.Order.{IsLeast, Below};
 ghost use Rattle.module_check.specs.Faults.{FunctionFault, AnyFault};
-ghost use Rattle.module_check.specs.Places.{StandApart};
 
 use crate::forms::{clauses_fault, end_fault, exports_fault, heads_fault};
 use crate::index::Indexed;
@@ -60,7 +59,7 @@ pub struct Checked {
     tree: Module,
     vars: Vec<VarUse>,
     ghost accepted: { IsAccepted tree },
-    ghost numbered: { All StandApart tree.functions → ∥ AreNumbered tree.functions vars.items ∥₁ },
+    ghost numbered: { ∥ AreNumbered tree.functions vars.items ∥₁ },
 }
 
 impl Checked {
@@ -74,10 +73,8 @@ impl Checked {
 
     /// The variables of the module's functions but `_`, in the order of the text, one function behind another: each variable's
     /// number in its function, which is how many get their values further left, and whether it gets its value here.
-    ///
-    /// This holds where no two variables of a function stand at one place, and no text has two there.
     pub fn vars(&self) -> &[VarUse]
-        ensures { All StandApart self.now.tree.functions → ∥ AreNumbered self.now.tree.functions result.now ∥₁ }
+        ensures { ∥ AreNumbered self.now.tree.functions result.now ∥₁ }
     {
         &self.vars
     }
@@ -110,6 +107,10 @@ fn numbered(alloc: Global, tree: Module) -> Result<Checked, CheckFault>
 ///
 /// The fault that starts first in the text, and of those at one place the one whose cause stands first in the order of the
 /// causes; or that memory ran out, which says nothing of the module.
+///
+/// Variables of a function that stand at one place and get their values at different ones can't be numbered by place. No tree of
+/// a text has them, since each of its variables is a token of its own; a tree that was made otherwise may, and is answered as if
+/// memory ran out.
 pub fn check(alloc: Global, tree: Module) -> Result<Checked, CheckFault>
     ensures accepted { IfOk result (λ checked. checked.tree ≡ tree) }
     ensures refused { IfErr result (λ fault. (fault.why ≡ NoMemory) ⊎ IsFirstFault tree fault.span fault.why) }

@@ -1,11 +1,11 @@
 //! The numbers of a module's variables.
 
-ghost use Rattle.std.specs.Prelude.{◌≡◌, ◌<◌, ◌↔◌, IfOk, List, All, map, length, get_or};
+ghost use Rattle.std.specs.Prelude.{◌≡◌, ◌<◌, ◌↔◌, IfOk, MatchBool, List, map, length, get_or};
 ghost use Rattle.std.specs.List.{Contains};
 ghost use Rattle.std.specs.List.Sorted.{IsStrictlySortedBy};
 ghost use Rattle.erl_syntax.specs.Checking.{IsUse, Uses, IsNumbered, AreNumbered};
 ghost use Rattle.module_check.specs.declared.places.Occurrence.{Occurrence};
-ghost use Rattle.module_check.specs.Places.{span_of, seen, StandApart};
+ghost use Rattle.module_check.specs.Places.{span_of, seen, Apart};
 ghost use Rattle.module_check.specs.Numbers.{position_cmp, occurrence_cmp, binders_in};
 
 use crate::places::{Occurrence, Position, places};
@@ -20,6 +20,13 @@ fn in_order(mut found: Vec<Occurrence>) -> Result<Vec<Occurrence>, AllocError>
     found.sort()?;
     found.dedup();
     Ok(found)
+}
+
+/// Whether no two variables stand at one place.
+fn stand_apart(occurrences: &[Occurrence]) -> bool
+    ensures { IsStrictlySortedBy occurrence_cmp occurrences.now → MatchBool result (Apart occurrences.now) (Apart occurrences.now → ⊥) }
+{
+    occurrences.is_sorted_by(|one, next| one.at < next.at)
 }
 
 /// The places at which variables get their values.
@@ -79,19 +86,23 @@ fn uses_of(
     Ok(uses)
 }
 
-/// The numbers of a function's variables.
+/// The numbers of a function's variables. Where two stand at one place, as none do in a text, the place does not number them,
+/// and this is as if memory ran out.
 fn function_vars(alloc: Global, function: &Function) -> Result<Vec<VarUse>, AllocError>
-    ensures { IfOk result (λ us. StandApart function.now → IsNumbered function.now us.items) }
+    ensures { IfOk result (λ us. IsNumbered function.now us.items) }
 {
     let found = places(alloc, function)?;
     let occurrences = in_order(found)?;
+    if !stand_apart(&occurrences) {
+        return Err(AllocError);
+    }
     let binders = binders_of(alloc, &occurrences)?;
     uses_of(alloc, &binders, &occurrences)
 }
 
 /// The numbers of a module's variables, one function behind another.
 pub(crate) fn vars(alloc: Global, tree: &Module) -> Result<Vec<VarUse>, AllocError>
-    ensures { IfOk result (λ us. All StandApart tree.now.functions → AreNumbered tree.now.functions us.items) }
+    ensures { IfOk result (λ us. AreNumbered tree.now.functions us.items) }
 {
     let mut vars = Vec::new(alloc);
     let functions = tree.functions.items();

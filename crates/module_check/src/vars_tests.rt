@@ -1,7 +1,7 @@
 use crate::check;
 use erl_syntax::{
-    Alt, Clause, Expr, Function, Guard, Head, Item, Listed, Module, Name, Pattern, Qual, Segment,
-    Span, Text, VarUse,
+    Alt, CheckCause, CheckFault, Clause, Expr, Function, Guard, Head, Item, Listed, Module, Name,
+    Pattern, Qual, Segment, Span, Text, VarUse,
 };
 use std::alloc::{AllocError, Global};
 use std::process::Abort;
@@ -99,16 +99,17 @@ fn function(alloc: Global, name: u32, body: Vec<Item>) -> Result<Function, Alloc
 
 /// A module `m` of these functions, of which `main` is the first.
 fn module(alloc: Global, functions: Vec<Function>) -> Result<Module, AllocError> {
-    let head = Head {
-        at: at(1),
-        name: 1,
-    };
+    let head = Head { at: at(1), name: 1 };
     let export = Name {
         at: at(1),
         name: 0,
         arity: 0,
     };
-    let atoms = vec![in alloc; text(alloc, b"main")?, text(alloc, b"m")?, text(alloc, b"f")?]?;
+    let atoms = vec![in alloc;
+        text(alloc, b"main")?,
+        text(alloc, b"m")?,
+        text(alloc, b"f")?,
+    ]?;
     Ok(Module {
         heads: Listed::of(vec![in alloc; head]?),
         exports: Listed::of(vec![in alloc; export]?),
@@ -280,4 +281,21 @@ fn each_function_counts_for_itself(rt: HostRuntime) -> Result<(), Fail> {
     let other = function(alloc, 2, vec![in alloc; second, third]?)?;
     let functions = vec![in alloc; main, other]?;
     numbers(&rt, alloc, functions, &[new(0), new(0), new(1), old(0)])
+}
+
+#[test]
+fn a_place_that_two_variables_share_is_not_numbered(rt: HostRuntime) -> Result<(), Fail> {
+    let alloc = rt.alloc();
+    // X = 1, Y = X, with Y and the second X at one place
+    let first = matched(alloc, target(alloc, 11, b"X")?, one())?;
+    let second = matched(alloc, target(alloc, 18, b"Y")?, read(alloc, 18, b"X")?)?;
+    let main = function(alloc, 0, vec![in alloc; first, second]?)?;
+    let tree = module(alloc, vec![in alloc; main]?)?;
+    let fault = check(alloc, tree).err();
+    let wanted = CheckFault {
+        span: Span { line: 1, column: 1 },
+        why: CheckCause::NoMemory,
+    };
+    assert_eq!(rt; fault, Some(wanted));
+    Ok(())
 }

@@ -5,7 +5,7 @@ use Rattle.module_check.proofs.Numbered.{functions_on, functions_end}
 use Rattle.module_check.proofs.numbers.vars.Goals as goal
 
 pub loop-function-init : goal.loop-function-init
-loop-function-init c = λ h. (let P : List VarUse → Type 0 = λ us. AreNumbered [] us in subst P (sym c.new-vars.ensures.items) AreNumbered.none)
+loop-function-init c = (let P : List VarUse → Type 0 = λ us. AreNumbered [] us in subst P (sym c.new-vars.ensures.items) AreNumbered.none)
 
 pub loop-function-preserved : goal.loop-function-preserved
 loop-function-preserved c = functions_on c.args.tree.now.functions c.items-functions.result.now c.loop-function.function-index c.function-item.result c.loop-function.vars.items c.extend_from_slice.new.self.items c.in_ok-more.more.items c.items-functions.ensures (omega arith) c.function-item.is (c.in_ok-extend_from_slice.ensures.items ∙ ap (λ zs. c.loop-function.vars.items ++ zs) c.deref.ensures.value) c.in_ok-more.ensures c.loop-function.invariant

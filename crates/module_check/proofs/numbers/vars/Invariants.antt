@@ -1,8 +1,6 @@
 use Rattle.std.proofs.Common.{take}
-use Rattle.std.specs.List.{All}
 use Rattle.erl_syntax.specs.Checking.{AreNumbered}
-use Rattle.module_check.specs.Places.{StandApart}
 use Rattle.module_check.proofs.numbers.vars.Given as goal
 
 abbrev pub invariant-loop-function : goal.invariant-loop-function
-invariant-loop-function l = All StandApart l.tree.functions → AreNumbered (take l.function-index l.functions) l.vars.items
+invariant-loop-function l = AreNumbered (take l.function-index l.functions) l.vars.items
