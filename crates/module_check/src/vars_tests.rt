@@ -23,19 +23,31 @@ fn one() -> Expr {
     }
 }
 
+/// A variable by its column and its name.
+type Variable = (u32, &'static str);
+
 /// A variable in an expression.
-fn read(alloc: Global, column: u32, name: &[u8]) -> Result<Expr, AllocError> {
+fn read(alloc: Global, variable: Variable) -> Result<Expr, AllocError> {
     Ok(Expr::Var {
-        at: at(column),
-        name: text(alloc, name)?,
+        at: at(variable.0),
+        name: text(alloc, variable.1.as_bytes())?,
     })
 }
 
 /// A variable in a pattern.
-fn target(alloc: Global, column: u32, name: &[u8]) -> Result<Pattern, AllocError> {
+fn target(alloc: Global, variable: Variable) -> Result<Pattern, AllocError> {
     Ok(Pattern::Var {
-        at: at(column),
-        name: text(alloc, name)?,
+        at: at(variable.0),
+        name: text(alloc, variable.1.as_bytes())?,
+    })
+}
+
+/// `{variable}`.
+fn tuple(alloc: Global, variable: Variable) -> Result<Pattern, AllocError> {
+    let item = target(alloc, variable)?;
+    Ok(Pattern::Tuple {
+        at: at(variable.0),
+        items: Listed::of(vec![in alloc; item]?),
     })
 }
 
@@ -61,13 +73,39 @@ fn matched(alloc: Global, pattern: Pattern, value: Expr) -> Result<Item, AllocEr
     })
 }
 
-/// `pattern -> then`.
-fn alternative(alloc: Global, pattern: Pattern, then: Expr) -> Result<Alt, AllocError> {
+/// `variable = 1`.
+fn set(alloc: Global, variable: Variable) -> Result<Item, AllocError> {
+    let pattern = target(alloc, variable)?;
+    matched(alloc, pattern, one())
+}
+
+/// `variable = from`.
+fn copied(alloc: Global, variable: Variable, from: Variable) -> Result<Item, AllocError> {
+    let pattern = target(alloc, variable)?;
+    let value = read(alloc, from)?;
+    matched(alloc, pattern, value)
+}
+
+/// `variable -> then`.
+fn alternative(alloc: Global, variable: Variable, then: Variable) -> Result<Alt, AllocError> {
+    let pattern = target(alloc, variable)?;
+    let then = read(alloc, then)?;
     Ok(Alt {
         at: at(98),
         pattern,
         guard: no_guard(alloc),
         body: Listed::of(vec![in alloc; value(alloc, then)]?),
+    })
+}
+
+/// `variable <- source`.
+fn generator(alloc: Global, variable: Variable, source: Variable) -> Result<Qual, AllocError> {
+    let pattern = target(alloc, variable)?;
+    let source = read(alloc, source)?;
+    Ok(Qual::Items {
+        at: at(variable.0),
+        pattern,
+        source,
     })
 }
 
@@ -159,13 +197,10 @@ const fn old(number: u32) -> VarUse {
 fn items_bind_and_read(rt: HostRuntime) -> Result<(), Fail> {
     let alloc = rt.alloc();
     // X = 1, Y = X, {X} = Y
-    let first = matched(alloc, target(alloc, 11, b"X")?, one())?;
-    let second = matched(alloc, target(alloc, 18, b"Y")?, read(alloc, 22, b"X")?)?;
-    let pair = Pattern::Tuple {
-        at: at(25),
-        items: Listed::of(vec![in alloc; target(alloc, 26, b"X")?]?),
-    };
-    let third = matched(alloc, pair, read(alloc, 31, b"Y")?)?;
+    let first = set(alloc, (11, "X"))?;
+    let second = copied(alloc, (18, "Y"), (22, "X"))?;
+    let pair = tuple(alloc, (26, "X"))?;
+    let third = matched(alloc, pair, read(alloc, (31, "Y"))?)?;
     let body = vec![in alloc; first, second, third]?;
     row(&rt, alloc, body, &[new(0), new(1), old(0), old(0), old(1)])
 }
@@ -174,30 +209,34 @@ fn items_bind_and_read(rt: HostRuntime) -> Result<(), Fail> {
 fn the_rightmost_pattern_is_matched_first(rt: HostRuntime) -> Result<(), Fail> {
     let alloc = rt.alloc();
     // {X} = X = 1
-    let pair = Pattern::Tuple {
-        at: at(11),
-        items: Listed::of(vec![in alloc; target(alloc, 12, b"X")?]?),
-    };
+    let pair = tuple(alloc, (12, "X"))?;
+    let single = target(alloc, (17, "X"))?;
     let item = Item {
-        patterns: Listed::of(vec![in alloc; pair, target(alloc, 17, b"X")?]?),
+        patterns: Listed::of(vec![in alloc; pair, single]?),
         value: one(),
     };
     row(&rt, alloc, vec![in alloc; item]?, &[old(0), new(0)])
+}
+
+/// `case Z of X -> X; X -> Z end`.
+fn choice(alloc: Global) -> Result<Expr, AllocError> {
+    let left = alternative(alloc, (28, "X"), (33, "X"))?;
+    let right = alternative(alloc, (36, "X"), (41, "Z"))?;
+    let chosen = read(alloc, (23, "Z"))?;
+    Ok(Expr::Case {
+        at: at(18),
+        value: Listed::of(vec![in alloc; chosen]?),
+        alts: Listed::of(vec![in alloc; left, right]?),
+    })
 }
 
 #[test]
 fn each_clause_binds_for_itself(rt: HostRuntime) -> Result<(), Fail> {
     let alloc = rt.alloc();
     // Z = 1, case Z of X -> X; X -> Z end
-    let first = matched(alloc, target(alloc, 11, b"Z")?, one())?;
-    let left = alternative(alloc, target(alloc, 28, b"X")?, read(alloc, 33, b"X")?)?;
-    let right = alternative(alloc, target(alloc, 36, b"X")?, read(alloc, 41, b"Z")?)?;
-    let choice = Expr::Case {
-        at: at(18),
-        value: Listed::of(vec![in alloc; read(alloc, 23, b"Z")?]?),
-        alts: Listed::of(vec![in alloc; left, right]?),
-    };
-    let body = vec![in alloc; first, value(alloc, choice)]?;
+    let first = set(alloc, (11, "Z"))?;
+    let second = value(alloc, choice(alloc)?);
+    let body = vec![in alloc; first, second]?;
     let wanted = [new(0), old(0), new(1), old(1), new(2), old(0)];
     row(&rt, alloc, body, &wanted)
 }
@@ -206,7 +245,7 @@ fn each_clause_binds_for_itself(rt: HostRuntime) -> Result<(), Fail> {
 fn a_receive_binds(rt: HostRuntime) -> Result<(), Fail> {
     let alloc = rt.alloc();
     // receive X -> X end
-    let only = alternative(alloc, target(alloc, 19, b"X")?, read(alloc, 24, b"X")?)?;
+    let only = alternative(alloc, (19, "X"), (24, "X"))?;
     let waiting = Expr::Receive {
         at: at(11),
         alts: Listed::of(vec![in alloc; only]?),
@@ -215,57 +254,50 @@ fn a_receive_binds(rt: HostRuntime) -> Result<(), Fail> {
     row(&rt, alloc, body, &[new(0), old(0)])
 }
 
+/// `[X || X <- X, Y <- X, Y]`.
+fn comprehension(alloc: Global) -> Result<Expr, AllocError> {
+    let outer = generator(alloc, (24, "X"), (29, "X"))?;
+    let inner = generator(alloc, (32, "Y"), (37, "X"))?;
+    let filter = Qual::Filter {
+        at: at(40),
+        test: read(alloc, (40, "Y"))?,
+    };
+    let row = read(alloc, (19, "X"))?;
+    Ok(Expr::ListFor {
+        at: at(18),
+        row: Listed::of(vec![in alloc; row]?),
+        quals: Listed::of(vec![in alloc; outer, inner, filter]?),
+    })
+}
+
 #[test]
 fn generators_have_new_variables(rt: HostRuntime) -> Result<(), Fail> {
     let alloc = rt.alloc();
-    // X = 1, [X || X <- X, Y <- X, Y], X
-    let first = matched(alloc, target(alloc, 11, b"X")?, one())?;
-    let outer = Qual::Items {
-        at: at(24),
-        pattern: target(alloc, 24, b"X")?,
-        source: read(alloc, 29, b"X")?,
-    };
-    let inner = Qual::Items {
-        at: at(32),
-        pattern: target(alloc, 32, b"Y")?,
-        source: read(alloc, 37, b"X")?,
-    };
-    let filter = Qual::Filter {
-        at: at(40),
-        test: read(alloc, 40, b"Y")?,
-    };
-    let list = Expr::ListFor {
-        at: at(18),
-        row: Listed::of(vec![in alloc; read(alloc, 19, b"X")?]?),
-        quals: Listed::of(vec![in alloc; outer, inner, filter]?),
-    };
-    let last = value(alloc, read(alloc, 44, b"X")?);
-    let body = vec![in alloc; first, value(alloc, list), last]?;
-    let wanted = [
-        new(0),
-        old(1),
-        new(1),
-        old(0),
-        new(2),
-        old(1),
-        old(2),
-        old(0),
-    ];
+    // X = 1, [X || X <- X, Y <- X, Y]
+    let first = set(alloc, (11, "X"))?;
+    let second = value(alloc, comprehension(alloc)?);
+    let body = vec![in alloc; first, second]?;
+    let wanted = [new(0), old(1), new(1), old(0), new(2), old(1), old(2)];
     row(&rt, alloc, body, &wanted)
+}
+
+/// `<<N, B:N>>`.
+fn sized(alloc: Global) -> Result<Pattern, AllocError> {
+    let length = segment(alloc, read(alloc, (13, "N"))?, None);
+    let size = read(alloc, (18, "N"))?;
+    let rest = segment(alloc, read(alloc, (16, "B"))?, Some(size));
+    Ok(Pattern::Bits {
+        at: at(11),
+        segments: Listed::of(vec![in alloc; length, rest]?),
+    })
 }
 
 #[test]
 fn sizes_see_segments_further_left(rt: HostRuntime) -> Result<(), Fail> {
     let alloc = rt.alloc();
     // <<N, B:N>> = 1, B
-    let length = segment(alloc, read(alloc, 13, b"N")?, None);
-    let rest = segment(alloc, read(alloc, 16, b"B")?, Some(read(alloc, 18, b"N")?));
-    let pattern = Pattern::Bits {
-        at: at(11),
-        segments: Listed::of(vec![in alloc; length, rest]?),
-    };
-    let first = matched(alloc, pattern, one())?;
-    let last = value(alloc, read(alloc, 27, b"B")?);
+    let first = matched(alloc, sized(alloc)?, one())?;
+    let last = value(alloc, read(alloc, (27, "B"))?);
     let wanted = [new(0), new(1), old(0), old(1)];
     row(&rt, alloc, vec![in alloc; first, last]?, &wanted)
 }
@@ -274,24 +306,27 @@ fn sizes_see_segments_further_left(rt: HostRuntime) -> Result<(), Fail> {
 fn each_function_counts_for_itself(rt: HostRuntime) -> Result<(), Fail> {
     let alloc = rt.alloc();
     // main() -> X = 1.  f() -> Y = 1, X = Y.
-    let first = matched(alloc, target(alloc, 11, b"X")?, one())?;
+    let first = set(alloc, (11, "X"))?;
     let main = function(alloc, 0, vec![in alloc; first]?)?;
-    let second = matched(alloc, target(alloc, 26, b"Y")?, one())?;
-    let third = matched(alloc, target(alloc, 33, b"X")?, read(alloc, 37, b"Y")?)?;
+    let second = set(alloc, (26, "Y"))?;
+    let third = copied(alloc, (33, "X"), (37, "Y"))?;
     let other = function(alloc, 2, vec![in alloc; second, third]?)?;
     let functions = vec![in alloc; main, other]?;
     numbers(&rt, alloc, functions, &[new(0), new(0), new(1), old(0)])
 }
 
+/// `main() -> X = 1, Y = X.`, with `Y` and the second `X` at one place.
+fn shared(alloc: Global) -> Result<Module, AllocError> {
+    let first = set(alloc, (11, "X"))?;
+    let second = copied(alloc, (18, "Y"), (18, "X"))?;
+    let main = function(alloc, 0, vec![in alloc; first, second]?)?;
+    module(alloc, vec![in alloc; main]?)
+}
+
 #[test]
 fn a_place_that_two_variables_share_is_not_numbered(rt: HostRuntime) -> Result<(), Fail> {
     let alloc = rt.alloc();
-    // X = 1, Y = X, with Y and the second X at one place
-    let first = matched(alloc, target(alloc, 11, b"X")?, one())?;
-    let second = matched(alloc, target(alloc, 18, b"Y")?, read(alloc, 18, b"X")?)?;
-    let main = function(alloc, 0, vec![in alloc; first, second]?)?;
-    let tree = module(alloc, vec![in alloc; main]?)?;
-    let fault = check(alloc, tree).err();
+    let fault = check(alloc, shared(alloc)?).err();
     let wanted = CheckFault {
         span: Span { line: 1, column: 1 },
         why: CheckCause::NoMemory,
