@@ -10,8 +10,12 @@ use Rattle.bits_top.specs.Command.{Spells, SpellsCheck, SpellsRun}
 use Rattle.bits_top.specs.declared.command.Command.{Command}
 use Rattle.bits_top.specs.declared.command.Command.TheVariants as made
 use Rattle.erl_syntax.specs.Atoms.{fixed_atoms}
-use Rattle.first_form.specs.TreeOf.{IsForm}
-use Rattle.first_form.specs.Numbers.{StandOnce}
+use Rattle.std.proofs.Math.Logic.{∥∥₁_map}
+use Rattle.erl_syntax.specs.Checking.{AreNumbered}
+use Rattle.erl_syntax.specs.declared.checking.VarUse.{VarUse}
+use Rattle.first_form.specs.TreeOf.{IsForm, IsTreeOf}
+use Rattle.first_form.specs.Numbers.{HaveNumbers, StandOnce}
+use Rattle.first_form.proofs.Numbered.{have_numbers}
 use Rattle.bits_top.proofs.StraightRuns.{IsStraightRun}
 use Rattle.erl_syntax.specs.declared.module.Module.{Module}
 use Rattle.module_accept.specs.Accepting.{Accepts, IsDue}
@@ -153,6 +157,10 @@ form_of seen bytes shown tree straight s t form =
 
 pub only_of : (seen bytes : List ℕ) (tree : Module) → seen ≡ bytes → ((other : Module) → Accepts seen other → other ≡ tree) → (other : Module) → Accepts bytes other → other ≡ tree
 only_of seen bytes tree s only = let P : List ℕ → Type 0 = λ v. (other : Module) → Accepts v other → other ≡ tree in subst P s only
+
+-- a checked module of the form has numbers for its variables
+pub numbered_tree : (tree : Module) (straight : Straight) (uses : List VarUse) → IsTreeOf tree straight → ∥ AreNumbered tree.functions uses ∥₁ → ∥ HaveNumbers tree ∥₁
+numbered_tree tree straight uses of numbered = ∥∥₁_map numbered (λ n. have_numbers tree straight uses of n)
 
 -- a text has one accepted module, so none of its modules has the form where this one hasn't
 pub none_built : (text : List ℕ) (tree : Module) → ((other : Module) → Accepts text other → other ≡ tree) → ((straight : Straight) → IsForm text tree straight → ⊥) →

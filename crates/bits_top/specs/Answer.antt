@@ -9,7 +9,7 @@ use Rattle.erl_syntax.specs.declared.span.Span.{Span}
 use Rattle.module_accept.specs.Accepting.{Accepts, IsDue}
 use Rattle.term_value.specs.ReadTrees.{module_of}
 use Rattle.first_form.specs.TreeOf.{IsForm, IsTreeOf}
-use Rattle.first_form.specs.Numbers.{AreNumbersOf, StandOnce}
+use Rattle.first_form.specs.Numbers.{AreNumbersOf, HaveNumbers, StandOnce}
 use Rattle.first_form.specs.declared.form.Straight.{Straight}
 use Rattle.bits_top.specs.Whole.{IsRunOf}
 use Rattle.bits_top.specs.declared.status.Status.{Status}
@@ -57,9 +57,10 @@ pub record IsWhole (source : Port) (text : List ℕ) (m : Module) : Type 0 where
   pub short : length text ≤ text_limit
   pub accepts : Accepts text m
 
--- So it is, and the module has today's form.
+-- So it is, and the module has today's form; and its variables have numbers.
 pub record IsAccepted (source : Port) (text : List ℕ) (tree : Module) : Type 0 where
   pub whole : IsWhole source text tree
+  pub numbered : ∥ HaveNumbers tree ∥₁
   pub straight : Straight
   pub form : IsForm text tree straight
 

@@ -9,6 +9,8 @@ mod built_in_tests;
 mod check_tests;
 #[cfg(test)]
 mod example_tests;
+#[cfg(test)]
+mod number_tests;
 mod printing;
 #[cfg(test)]
 mod read_tests;

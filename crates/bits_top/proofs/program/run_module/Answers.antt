@@ -1,6 +1,6 @@
 use Rattle.std.proofs.Common.{◌≤◌, length, codes, refl, ap, sym, ◌∙◌, arith, rules, inl, inr}
 use Rattle.bits_top.specs.Answer.{IsTable}
-use Rattle.bits_top.proofs.Answers.{refusal_answers, accepted_answers, form_of, held_long, none_built, only_of, unaccepted, whole_of}
+use Rattle.bits_top.proofs.Answers.{refusal_answers, accepted_answers, form_of, held_long, none_built, numbered_tree, only_of, unaccepted, whole_of}
 use Rattle.bits_top.proofs.program.run_module.Goals as goal
 
 pub returns-then-len : goal.returns-then-len
@@ -35,5 +35,6 @@ returns-in-Ok-Some g c =
     let whole = whole_of _ c.in-Ok.text.items c.deref.result.now tree c.deref.ensures.value c.in-Ok.ensures.read.taken (c.in-Ok.ensures.read.whole short) short c.in-Ok-accept.ensures.accepted in
     let form = form_of c.deref-2.result.now c.in-Ok.text.items c.module.result.now tree c.in-Ok-Some.straight c.deref-2.ensures.value c.module.ensures.same (search rules) in
     let table : IsTable tree.atoms = record { others = c.in-Ok-accept.ensures.fixed.0; fixed = c.in-Ok-accept.ensures.fixed.1; once = c.in-Ok-accept.ensures.once } in
-    accepted_answers c.answer.result c.args.reductions c.in-Ok.text.items tree _ _ _ (record { whole = whole; straight = c.in-Ok-Some.straight; form = form }) table
+    let numbered = numbered_tree tree c.in-Ok-Some.straight c.in-Ok-accept.checked.vars.items form.tree c.in-Ok-accept.checked.numbered in
+    accepted_answers c.answer.result c.args.reductions c.in-Ok.text.items tree _ _ _ (record { whole = whole; numbered = numbered; straight = c.in-Ok-Some.straight; form = form }) table
     c.answer.ensures

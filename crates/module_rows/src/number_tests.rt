@@ -1,0 +1,95 @@
+use module_accept::accept;
+use std::alloc::{AllocError, Global};
+use std::process::Abort;
+use std::test::Fail;
+
+/// The numbers of a module's variables in the order of the text, each behind a space, with `!` where the variable gets its value.
+fn numbers(alloc: Global, text: &[u8]) -> Result<Option<String>, AllocError> {
+    let Ok(checked) = accept(alloc, text) else {
+        return Ok(None);
+    };
+    let mut told = String::new(alloc);
+    for variable in checked.vars() {
+        let mark = if variable.binds { "!" } else { "" };
+        let one = format!(in alloc; " {}{mark}", variable.number)?;
+        told.push_str(one.as_str())?;
+    }
+    Ok(Some(told))
+}
+
+/// Compares the numbers of each module, whose forms from the third line on these are.
+fn all_have(
+    rt: &impl Abort,
+    alloc: Global,
+    rows: &[(&'static str, &'static str)],
+) -> Result<(), Fail> {
+    for (forms, wanted) in rows {
+        let text = format!(in alloc; "-module(m).\n-export([main/0]).\n{forms}\n")?;
+        let told = numbers(alloc, text.as_bytes())?.ok_or("refused")?;
+        assert_eq!(rt; told.as_str(), *wanted);
+    }
+    Ok(())
+}
+
+#[test]
+fn variables_count_by_where_they_get_their_values(rt: HostRuntime) -> Result<(), Fail> {
+    let rows = [
+        ("main() -> 1.", ""),
+        ("main() -> A = 1, B = A, {B, A}.", " 0! 1! 0 1 0"),
+        ("main() -> B = 1, A = 2, A + B.", " 0! 1! 1 0"),
+        ("main() -> A = 1, A = 1.", " 0! 0"),
+        ("main() -> {X} = X = {5}, X.", " 0 0! 0"),
+        ("main() -> _ = 1, _A = 2.", " 0!"),
+    ];
+    all_have(&rt, rt.alloc(), &rows)
+}
+
+#[test]
+fn each_function_counts_for_itself(rt: HostRuntime) -> Result<(), Fail> {
+    let rows = [
+        (
+            "main() -> A = 1, f(A).\nf(B) -> C = B, C.",
+            " 0! 0 0! 1! 0 1",
+        ),
+        (
+            "main() -> f({1, 1}, 2).\nf({A, A}, B) -> A + B.",
+            " 0! 0 1! 0 1",
+        ),
+    ];
+    all_have(&rt, rt.alloc(), &rows)
+}
+
+#[test]
+fn each_clause_has_variables_of_its_own(rt: HostRuntime) -> Result<(), Fail> {
+    let rows = [
+        (
+            "main() -> Z = 1, case Z of X -> X; Y -> {Y, Z} end.",
+            " 0! 0 1! 1 2! 2 0",
+        ),
+        (
+            "main() -> case 1 of X -> X; X -> X end.",
+            " 0! 0 1! 1",
+        ),
+        ("main() -> receive X when X > 0 -> X end.", " 0! 0 0"),
+    ];
+    all_have(&rt, rt.alloc(), &rows)
+}
+
+#[test]
+fn generators_and_sizes_have_the_nearest_variable(rt: HostRuntime) -> Result<(), Fail> {
+    let rows = [
+        (
+            "main() -> X = [1], [X || X <- X, Y <- X, Y].",
+            " 0! 1 1! 0 2! 1 2",
+        ),
+        (
+            "main() -> << <<X>> || <<X:4>> <= <<1>>, X > 0 >>.",
+            " 0 0! 0",
+        ),
+        (
+            "main() -> <<N:8, B:N/binary, _/binary>> = <<1, 2, 3>>, {N, B}.",
+            " 0! 1! 0 0 1",
+        ),
+    ];
+    all_have(&rt, rt.alloc(), &rows)
+}
