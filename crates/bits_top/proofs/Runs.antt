@@ -15,7 +15,7 @@ use Rattle.first_form.specs.declared.form.Part.{Part}
 use Rattle.first_form.specs.declared.form.Straight.{Straight}
 use Rattle.bits_top.specs.declared.matching.Binding.{Binding}
 use Rattle.bits_top.specs.declared.run.Ending.{Ending}
-use Rattle.bits_top.specs.declared.run.Ending.TheVariants as ending
+use Rattle.bits_top.specs.declared.run.Ending.TheVariants as ended
 use Rattle.bits_top.specs.declared.run.Progress.{Progress}
 use Rattle.bits_top.specs.declared.run.Outcome.{Outcome}
 
@@ -80,7 +80,7 @@ advanced_by : (s : Straight) (r : ℕ) (item : Item) (old new : Progress) (items
 advanced_by s r (Match fields parts) old new items a h = stands_match s r old new fields parts items a h
 advanced_by s r (Display variable) old new items a h = one_more s r new.left old new variable items a a.left refl h
 
-exhausted_by : (s : Straight) (r : ℕ) (item : Item) (old new : Progress) (items : List Item) → Advances false item old new → Stands s r old (item ∷ items) → Ends s r new ending.Exhausted
+exhausted_by : (s : Straight) (r : ℕ) (item : Item) (old new : Progress) (items : List Item) → Advances false item old new → Stands s r old (item ∷ items) → Ends s r new ended.Exhausted
 exhausted_by s r (Match fields parts) old new items a h = absurd a
 exhausted_by s r (Display variable) old new items a h =
     record {
@@ -95,11 +95,11 @@ advanced s r i d old new inside a h =
     advanced_by s r (slice_index_or s.items i d) old new (drop (i + 1) s.items) a (subst (λ items. Stands s r old items) (drop_next s.items i d inside) h)
 
 pub exhausted : (s : Straight) (r i : ℕ) (d : Item) (old new : Progress) → i < length s.items → Advances false (slice_index_or s.items i d) old new →
-    Stands s r old (drop i s.items) → Ends s r new ending.Exhausted
+    Stands s r old (drop i s.items) → Ends s r new ended.Exhausted
 exhausted s r i d old new inside a h =
     exhausted_by s r (slice_index_or s.items i d) old new (drop (i + 1) s.items) a (subst (λ items. Stands s r old items) (drop_next s.items i d inside) h)
 
-pub returned : (s : Straight) (r i : ℕ) (progress : Progress) → length s.items ≤ i → Stands s r progress (drop i s.items) → Ends s r progress ending.Normal
+pub returned : (s : Straight) (r i : ℕ) (progress : Progress) → length s.items ≤ i → Stands s r progress (drop i s.items) → Ends s r progress ended.Normal
 returned s r i progress past h =
     let last : Stands s r progress [] = subst (λ items. Stands s r progress items) (drop_all i s.items past) h in
     record { shown = sym (append-nil progress.shown.items) ∙ last.shown; ending = last.ending; entries = last.entries }

@@ -21,7 +21,7 @@ use Rattle.term_value.specs.declared.entry.Entry.{Entry}
 use Rattle.term_value.specs.declared.entry.Entry.TheVariants.{Shown, Ended, Gone}
 use Rattle.first_form.specs.Form.{IsStraight, AreItems, IsShort}
 use Rattle.first_form.specs.Whole.{module_by, AreApart}
-use Rattle.bits_top.specs.Runs.{built, decoded, known, bound_value, shown_of, ending_of, shown_entries, end_entries, HasRun, end_line, report_of}
+use Rattle.bits_top.specs.Runs.{built, decoded, known, bound_value, shown_of, ending_of, shown_entries, end_entries, HasRun, ending_text, report_of}
 use Rattle.bits_top.specs.Whole.{IsRunOf}
 use Rattle.bits_top.proofs.Runs.{known_more}
 use Rattle.bits_top.proofs.SameAsks.{due, standing, resting, whole_of, AllApart, apart_matched, apart_displayed}
@@ -100,7 +100,7 @@ leads number code r (Display x ∷ items) bs (suc left) k before fits short apar
 abbrev pub SpellsReductions : List (List ℕ) → Type 0
 SpellsReductions atoms = atom_text (slice_index_or atoms a_reductions []) ≡ codes "reductions"
 
-end_text : (code : Module) (how : Ending) → SpellsReductions code.atoms → end_line how ≡ reports.processes_text (name_in code) 1 (Left (whole_end how) ∷ [])
+end_text : (code : Module) (how : Ending) → SpellsReductions code.atoms → ending_text how ≡ reports.processes_text (name_in code) 1 (Left (whole_end how) ∷ [])
 end_text code Normal spelled = refl
 end_text code Exhausted spelled = let d : decimal 1 ≡ 49 ∷ [] = decimal_digit 1 (omega arith) in rw (spelled, d) refl
 
@@ -108,7 +108,7 @@ lines : (code : Module) (r : ℕ) (shown : List ℤ) (how : Ending) → SpellsRe
 lines code r shown how spelled =
     let each : flat_map (λ v. text (name_in code) v ++ codes "\n") (map (λ n. VInt n) shown) ≡ flat_map (λ n. signed_decimal n ++ codes "\n") shown =
     flat_map-map (λ v. text (name_in code) v ++ codes "\n") (λ n. VInt n) shown in
-    ap (λ l. l ++ end_line how) (sym each) ∙ ap (λ l. flat_map (λ v. text (name_in code) v ++ codes "\n") (map (λ n. VInt n) shown) ++ l) (end_text code how spelled)
+    ap (λ l. l ++ ending_text how) (sym each) ∙ ap (λ l. flat_map (λ v. text (name_in code) v ++ codes "\n") (map (λ n. VInt n) shown) ++ l) (end_text code how spelled)
 
 -- the whole run
 

@@ -102,10 +102,10 @@ pub record Finishes (progress : Progress) (how : Ending) (outcome : Outcome) : T
   pub entries : outcome.entries ≡ progress.entries.items ++ end_entries
 
 -- the line of process 1 in a report, where it didn't end normally
-abbrev pub end_line : Ending → List ℕ
-end_line Normal = []
-end_line Exhausted = codes "exit <0.1.0> reductions\n"
+abbrev pub ending_text : Ending → List ℕ
+ending_text Normal = []
+ending_text Exhausted = codes "exit <0.1.0> reductions\n"
 
 -- the report: what was displayed, a line each, and how it ended
 abbrev pub report_of : List ℤ → Ending → List ℕ
-report_of shown ending = flat_map (λ n. signed_decimal n ++ codes "\n") shown ++ end_line ending
+report_of shown ending = flat_map (λ n. signed_decimal n ++ codes "\n") shown ++ ending_text ending

@@ -3,7 +3,7 @@ ghost use Rattle.std.specs.Prelude.{◌≡◌, ◌++◌, [], ◌∷◌, codes, d
 ghost use Rattle.std.specs.List.{flat_map};
 ghost use Rattle.std.specs.Fmt.{signed_decimal};
 ghost use Rattle.term_value.specs.Orders.{entry_text, order_text};
-ghost use Rattle.bits_top.specs.Runs.{end_line as line_of, report_of};
+ghost use Rattle.bits_top.specs.Runs.{ending_text, report_of};
 
 use crate::run::Ending;
 use itoa::Buffer;
@@ -75,7 +75,7 @@ fn push_shown(text: &mut Vec<u8>, number: i128) -> Result<(), AllocError>
 
 // The line of process 1, where it didn't end normally.
 fn end_line(ending: Ending) -> &'static [u8]
-    ensures { result.now ≡ line_of ending }
+    ensures { result.now ≡ ending_text ending }
 {
     match ending {
         Ending::Normal => b"",
