@@ -1,17 +1,12 @@
 -- From what was read, run and written to the answer of a command.
-use Rattle.std.proofs.Common.{◌≡◌, ◌⊎◌, ℕ, ◌+◌, ◌≤◌, ◌<◌, List, [], ◌∷◌, ◌++◌, length, Option, Some, None, IfSome, refl, ap, sym, ◌∙◌, inl, inr, arith, codes, decimal, append-nil, length-append, map, subst}
-use Rattle.std.specs.List.{flat_map}
-use Rattle.std.specs.Fmt.{signed_decimal}
+use Rattle.std.proofs.Common.{◌≡◌, ◌⊎◌, ℕ, ◌+◌, ◌≤◌, ◌<◌, List, [], ◌∷◌, ◌++◌, length, Option, Some, None, IfSome, refl, ap, sym, ◌∙◌, inl, inr, arith, codes, decimal, append-nil, length-append, subst}
 use Rattle.std.proofs.lemmas.Fmt.{decimal_injective}
-use Rattle.std.proofs.lemmas.List.Folds.{flat_map-map}
 use Rattle.std.specs.Io.KnownBytes.{Consumes, IsAtEnd}
 use Rattle.bits_top.specs.Answer.{Port, Untouched, IsAccepted, IsRefusedText, IsRefusedWith, IsUnaccepted, IsTable, IsWhole, AnswersRefusal, AnswersAccepted, AnswersRun, AnswersCheck, AnswersOk, CantRun, ChecksWell, IsToldWell, IsSmooth, IsSmoothRefusal, IsDoneOrNoMemory, IsRefusedOrNoMemory, text_limit}
 use Rattle.bits_top.specs.Command.{Spells, SpellsCheck, SpellsRun}
 use Rattle.bits_top.specs.declared.command.Command.{Command}
 use Rattle.bits_top.specs.declared.command.Command.TheVariants as made
-use Rattle.erl_syntax.specs.Atoms.{fixed_atoms}
 use Rattle.first_form.specs.TreeOf.{IsForm}
-use Rattle.first_form.specs.Numbers.{StandOnce}
 use Rattle.erl_syntax.specs.declared.module.Module.{Module}
 use Rattle.module_accept.specs.Accepting.{Accepts, IsDue}
 use Rattle.module_accept.specs.Outcome.{Refuses}

@@ -1,5 +1,5 @@
 -- Matches of bit patterns with bit expressions.
-use Rattle.std.proofs.Common.{◌≡◌, ℕ, ◌+◌, ◌≤◌, ◌<◌, ◌^◌, List, [], ◌∷◌, ◌++◌, Bool, true, length, take, drop, arith, pos, Some, refl, sym, ap, subst, ◌∙◌, append_assoc, append-nil, slice_index_or, nat_lt}
+use Rattle.std.proofs.Common.{◌≡◌, ℕ, ◌+◌, ◌≤◌, ◌<◌, ◌^◌, List, [], ◌∷◌, ◌++◌, Bool, true, length, take, drop, arith, pos, Some, refl, sym, ap, ◌∙◌, append_assoc, append-nil, slice_index_or, nat_lt}
 use Rattle.std.proofs.lemmas.Bool.Decides.{nat_tests}
 use Rattle.std.proofs.lemmas.Grind.{common_steps}
 use Rattle.std.proofs.lemmas.List.{drop-drop, drop_all}

@@ -5,9 +5,8 @@ use Rattle.std.proofs.lemmas.Bool.Decides.{nat_tests}
 use Rattle.std.proofs.lemmas.Grind.{common_steps}
 use Rattle.std.proofs.lemmas.List.{drop_all}
 use Rattle.first_form.specs.Form.{AreItems}
-use Rattle.bits_top.specs.Runs.{built, decoded, known, bound_value, shown_of, ending_of, shown_entries, end_entries, Matches, Shows, Exhausts, Advances, Finishes, HasRun}
+use Rattle.bits_top.specs.Runs.{built, decoded, known, bound_value, shown_of, ending_of, shown_entries, end_entries, Matches, Shows, Advances, Finishes, HasRun}
 use Rattle.bits_top.proofs.Binding.{drop_next}
-use Rattle.term_value.specs.declared.entry.Entry.TheVariants.{Shown}
 use Rattle.first_form.specs.declared.form.Item.{Item}
 use Rattle.first_form.specs.declared.form.Item.TheVariants.{Match, Display}
 use Rattle.first_form.specs.declared.form.Field.{Field}

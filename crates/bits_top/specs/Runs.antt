@@ -1,4 +1,4 @@
--- What a module of today's form does (Erlang Reference Manual, "Bit Syntax Expressions", "Match Operator"; that a display takes a
+-- What a module of today's form does (Erlang Reference Manual, "Bit Syntax Expressions", "Expressions"; that a display takes a
 -- reduction, and what an order and a report say of a run, are this project's own).
 use Rattle.std.specs.Prelude.{◌≡◌, ℕ, ℤ, pos, zero, suc, ◌-◌, List, [], ◌∷◌, ◌++◌, take, drop, map, sum_by, cond, nat_eq, codes, Bool, true, false}
 use Rattle.std.specs.List.{flat_map}
@@ -35,19 +35,19 @@ decoded (field ∷ fields) bits = record { variable = field.variable; value = po
 abbrev pub known : List Binding → List ℕ
 known bindings = map (λ binding. binding.variable) bindings
 
--- the value of a variable that is bound
+-- the value of a variable that is bound; no item names another
 abbrev pub bound_value : List Binding → ℕ → ℤ
 bound_value [] variable = pos 0
 bound_value (binding ∷ bindings) variable = cond (nat_eq binding.variable variable) binding.value (bound_value bindings variable)
 
--- what the items display, with these variables bound and so many reductions left
+-- what items display one after another, with these variables bound and so many reductions left
 abbrev pub shown_of : List Binding → List Item → ℕ → List ℤ
 shown_of bindings [] left = []
 shown_of bindings (Match fields parts ∷ items) left = shown_of (bindings ++ decoded fields (built parts)) items left
 shown_of bindings (Display variable ∷ items) zero = []
 shown_of bindings (Display variable ∷ items) (suc left) = bound_value bindings variable ∷ shown_of bindings items left
 
--- how they end: a display needs a reduction
+-- how they end: a display for which no reduction is left is the end
 abbrev pub ending_of : List Binding → List Item → ℕ → Ending
 ending_of bindings [] left = Normal
 ending_of bindings (Match fields parts ∷ items) left = ending_of (bindings ++ decoded fields (built parts)) items left
@@ -58,7 +58,7 @@ ending_of bindings (Display variable ∷ items) (suc left) = ending_of bindings 
 abbrev pub shown_entries : List ℤ → List Entry
 shown_entries shown = map (λ n. Shown 1) shown
 
--- then it ended, and had moved no bits of a shared buffer
+-- then it ended; it had no shared buffer, and moved no bits of one
 abbrev pub end_entries : List Entry
 end_entries = Ended 1 ∷ Gone 1 0 0 0 ∷ []
 
