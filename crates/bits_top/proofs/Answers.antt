@@ -6,7 +6,9 @@ use Rattle.bits_top.specs.Answer.{Port, Untouched, IsAccepted, IsRefusedText, Is
 use Rattle.bits_top.specs.Command.{Spells, SpellsCheck, SpellsRun}
 use Rattle.bits_top.specs.declared.command.Command.{Command}
 use Rattle.bits_top.specs.declared.command.Command.TheVariants as made
+use Rattle.erl_syntax.specs.Atoms.{fixed_atoms}
 use Rattle.first_form.specs.TreeOf.{IsForm}
+use Rattle.first_form.specs.Numbers.{StandOnce}
 use Rattle.erl_syntax.specs.declared.module.Module.{Module}
 use Rattle.module_accept.specs.Accepting.{Accepts, IsDue}
 use Rattle.module_accept.specs.Outcome.{Refuses}
