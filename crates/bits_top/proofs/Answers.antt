@@ -1,22 +1,17 @@
 -- From what was read, run and written to the answer of a command.
-use Rattle.std.proofs.Common.{◌≡◌, ◌⊎◌, ℕ, ◌+◌, ◌≤◌, ◌<◌, List, [], ◌∷◌, ◌++◌, length, Option, Some, None, IfSome, refl, ap, sym, ◌∙◌, inl, inr, arith, codes, decimal, append-nil, length-append, map, subst}
-use Rattle.std.specs.List.{flat_map}
-use Rattle.std.specs.Fmt.{signed_decimal}
+use Rattle.std.proofs.Common.{◌≡◌, ◌⊎◌, ℕ, ◌+◌, ◌≤◌, ◌<◌, List, [], ◌∷◌, ◌++◌, length, Option, Some, None, IfSome, refl, ap, sym, ◌∙◌, inl, inr, arith, codes, decimal, append-nil, length-append, subst}
 use Rattle.std.proofs.lemmas.Fmt.{decimal_injective}
-use Rattle.std.proofs.lemmas.List.Folds.{flat_map-map}
 use Rattle.std.specs.Io.KnownBytes.{Consumes, IsAtEnd}
 use Rattle.bits_top.specs.Answer.{Port, Untouched, IsAccepted, IsRefusedText, IsRefusedWith, IsUnaccepted, IsTable, IsWhole, AnswersRefusal, AnswersAccepted, AnswersRun, AnswersCheck, AnswersOk, CantRun, ChecksWell, IsToldWell, IsSmooth, IsSmoothRefusal, IsDoneOrNoMemory, IsRefusedOrNoMemory, text_limit}
 use Rattle.bits_top.specs.Command.{Spells, SpellsCheck, SpellsRun}
 use Rattle.bits_top.specs.declared.command.Command.{Command}
 use Rattle.bits_top.specs.declared.command.Command.TheVariants as made
-use Rattle.erl_syntax.specs.Atoms.{fixed_atoms}
 use Rattle.std.proofs.Math.Logic.{∥∥₁_map}
 use Rattle.erl_syntax.specs.Checking.{AreNumbered}
 use Rattle.erl_syntax.specs.declared.checking.VarUse.{VarUse}
 use Rattle.first_form.specs.TreeOf.{IsForm, IsTreeOf}
-use Rattle.first_form.specs.Numbers.{HaveNumbers, StandOnce}
+use Rattle.first_form.specs.Numbers.{HaveNumbers}
 use Rattle.first_form.proofs.Numbered.{have_numbers}
-use Rattle.bits_top.proofs.StraightRuns.{IsStraightRun}
 use Rattle.erl_syntax.specs.declared.module.Module.{Module}
 use Rattle.module_accept.specs.Accepting.{Accepts, IsDue}
 use Rattle.module_accept.specs.Outcome.{Refuses}
@@ -24,29 +19,10 @@ use Rattle.module_accept.specs.declared.accepting.Refusal.{Refusal}
 use Rattle.module_accept.specs.declared.accepting.Refusal.TheVariants.{Memory, Line}
 use Rattle.std.specs.declared.vec.Vec.{Vec}
 use Rattle.std.specs.declared.alloc.Global.{Global}
-use Rattle.bits_top.specs.Machine.{Left, Machine, AllGone}
-use Rattle.bits_top.specs.Runs.{HasRun, end_of}
-use Rattle.bits_top.specs.Texts.{order_text, processes_text, machine_text}
-use Rattle.bits_top.specs.Value.{value_text, VInt}
 use Rattle.bits_top.specs.declared.command.Run.{Run}
 use Rattle.first_form.specs.declared.form.Straight.{Straight}
-use Rattle.bits_top.specs.declared.run.Outcome.{Outcome}
 use Rattle.bits_top.specs.declared.status.Status.{Status}
 use Rattle.bits_top.specs.declared.status.Status.TheVariants.{Done, Refused, Usage, ReadFault, ReportFault, OrderFault, NoMemory, BadOrder}
-
--- a whole run and its texts
-pub run_told : (s : Straight) (r : ℕ) (outcome : Outcome) (order report : List ℕ) → HasRun s r outcome → order ≡ order_text outcome.entries →
-    report ≡ flat_map (λ n. signed_decimal n ++ codes "\n") outcome.shown ++ processes_text 1 (Left (end_of outcome.ending) ∷ []) → IsStraightRun s r order report
-run_told s r outcome order report h o t =
-    let lines : flat_map (λ v. value_text v ++ codes "\n") (map (λ n. VInt n) outcome.shown) ≡ flat_map (λ n. signed_decimal n ++ codes "\n") outcome.shown =
-    flat_map-map (λ v. value_text v ++ codes "\n") (λ n. VInt n) outcome.shown in
-    record {
-      entries = outcome.entries;
-      legal = h.legal;
-      complete = (let P : Machine → Type 0 = λ m. AllGone m.processes in subst P (sym h.state) (tt, tt));
-      ordered = o;
-      reported = t ∙ ap (λ l. l ++ processes_text 1 (Left (end_of outcome.ending) ∷ [])) (sym lines) ∙ ap machine_text (sym h.state);
-    }
 
 pub refusal_answers : (status : Status) (reductions : ℕ) (text line : List ℕ) (source report order : Port) → IsRefusedWith source text line → Untouched order →
     AnswersRefusal status report line → AnswersRun reductions status source report order

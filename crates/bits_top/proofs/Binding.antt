@@ -1,19 +1,16 @@
 -- Matches of bit patterns with bit expressions.
-use Rattle.std.proofs.Common.{◌≡◌, ℕ, ◌+◌, ◌≤◌, ◌<◌, ◌^◌, List, [], ◌∷◌, ◌++◌, Bool, true, length, take, drop, map, arith, pos, Some, refl, sym, ap, subst, ◌∙◌, append_assoc, slice_index_or, nat_le, nat_lt}
+use Rattle.std.proofs.Common.{◌≡◌, ℕ, ◌+◌, ◌≤◌, ◌<◌, ◌^◌, List, [], ◌∷◌, ◌++◌, Bool, true, length, take, drop, arith, pos, Some, refl, sym, ap, ◌∙◌, append_assoc, append-nil, slice_index_or, nat_lt}
 use Rattle.std.proofs.lemmas.Bool.Decides.{nat_tests}
 use Rattle.std.proofs.lemmas.Grind.{common_steps}
-use Rattle.std.proofs.lemmas.List.{drop-drop, length-drop, drop_all}
+use Rattle.std.proofs.lemmas.List.{drop-drop, drop_all}
 use Rattle.std.proofs.lemmas.List.Sums.{sum_by_more_le, sum_by-append}
 use Rattle.std.proofs.Math.Pow.{pow_mono}
 use Rattle.std.proofs.Math.Seq.{drop-cons}
 use Rattle.bits_value.proofs.BitLists.{natural-lt}
 use Rattle.bits_value.specs.Number.{natural, bounded, spell}
 use Rattle.bits_value.specs.declared.Endian.TheVariants.{Big}
-use Rattle.bits_top.specs.Body.{segments}
 use Rattle.first_form.specs.Form.{part_size, parts_bits}
-use Rattle.bits_top.specs.Runs.{fields_bits, bounds, known}
-use Rattle.bits_top.specs.Tree.{Bound, Target, matched_bits, built, Yes}
-use Rattle.bits_top.specs.Value.{VInt}
+use Rattle.bits_top.specs.Runs.{built, decoded, fields_bits}
 use Rattle.first_form.specs.declared.form.Field.{Field}
 use Rattle.first_form.specs.declared.form.Part.{Part}
 use Rattle.bits_top.specs.declared.matching.Binding.{Binding}
@@ -37,7 +34,7 @@ written_front old new piece at n e l h =
     let f : take (at + n) ((take at old ++ piece) ++ drop (at + n) old) ≡ take at old ++ piece = grind (arith, common_steps) in
     rw (e, ← append_assoc (take at old) piece (drop (at + n) old)) f
 
-pub built_next : (parts : List Part) (part : Part) → built (segments (parts ++ part ∷ [])) ≡ built (segments parts) ++ spell (part_size part.bits) (pos part.value) Big
+pub built_next : (parts : List Part) (part : Part) → built (parts ++ part ∷ []) ≡ built parts ++ spell (part_size part.bits) (pos part.value) Big
 built_next parts part = grind (arith, common_steps)
 
 pub bits_next : (parts : List Part) (part : Part) → parts_bits (parts ++ part ∷ []) ≡ parts_bits parts + part_size part.bits
@@ -58,51 +55,31 @@ narrow_some bits h =
     let t : nat_lt (natural bits) (2 ^ 127) ≡ true = grind (arith, nat_tests) in
     rw t refl
 
-abbrev pub targets : List Field → List Target
-targets fields = map (λ field. record { variable = field.variable; bits = field.bits }) fields
+-- these bindings, and those that the fields from one on take from a place on, are the earlier ones and those of all fields
+abbrev pub DecodesTo : List Field → List Bool → List Binding → List Binding → List Field → ℕ → Type 0
+DecodesTo fields bits old new rest at = new ++ decoded rest (drop at bits) ≡ old ++ decoded fields bits
 
--- the first fields took the bits up to a place, and gave these bindings
-pub record DecodesTo (done rest : List Field) (bits : List Bool) (at : ℕ) (old new : List Binding) : Type 0 where
-  pub others : List Bound
-  pub gives : matched_bits (targets (done ++ rest)) bits [] ≡ matched_bits (targets rest) (drop at bits) others
-  pub bound : bounds new ≡ bounds old ++ others
-  pub names : known new ≡ known old ++ map (λ field. field.variable) done
-
-pub decodes_first : (fields : List Field) (bits : List Bool) (old : List Binding) → DecodesTo [] fields bits 0 old old
-decodes_first fields bits old = record { others = []; gives = refl; bound = grind (arith, common_steps); names = grind (arith, common_steps) }
-
-one_field : (field : Field) (rest : List Field) (bits : List Bool) (others : List Bound) → field.bits ≤ length bits →
-    matched_bits (targets (field ∷ rest)) bits others ≡
-    matched_bits (targets rest) (drop field.bits bits) (others ++ record { variable = field.variable; value = VInt (pos (natural (take field.bits bits))) } ∷ [])
-one_field field rest bits others h = let t : nat_le field.bits (length bits) ≡ true = grind (arith, nat_tests) in rw t refl
-
-pub decodes_next : (done rest : List Field) (field : Field) (bits : List Bool) (at : ℕ) (old mid new : List Binding) (b : Binding) →
-    DecodesTo done (field ∷ rest) bits at old mid → at + field.bits ≤ length bits → new ≡ mid ++ b ∷ [] → b.variable ≡ field.variable → b.value ≡ pos (natural (take field.bits (drop at bits))) →
-    DecodesTo (done ++ field ∷ []) rest bits (at + field.bits) old new
-decodes_next done rest field bits at old mid new b h room e v n =
-    let short : field.bits ≤ length (drop at bits) = omega (arith, length-drop at bits) in
-    let step = one_field field rest (drop at bits) h.others short in
-    record {
-      others = h.others ++ record { variable = field.variable; value = VInt (pos (natural (take field.bits (drop at bits)))) } ∷ [];
-      gives = ap (λ fs. matched_bits (targets fs) bits []) (append_assoc done (field ∷ []) rest) ∙ h.gives ∙ step
-          ∙ ap (λ bs. matched_bits (targets rest) bs (h.others ++ record { variable = field.variable; value = VInt (pos (natural (take field.bits (drop at bits)))) } ∷ [])) (drop-drop field.bits at bits);
-      bound = grind (arith, common_steps, e, v, n, h.bound);
-      names = grind (arith, common_steps, e, v, h.names);
-    }
-
-pub decodes_last : (fields : List Field) (bits : List Bool) (others : List Bound) (at : ℕ) → length bits ≤ at → matched_bits (targets []) (drop at bits) others ≡ Yes others
-decodes_last fields bits others at h = rw (drop_all at bits h) refl
+decodes_one : (field : Field) (rest : List Field) (bits : List Bool) (at : ℕ) (mid new : List Binding) (b : Binding) → new ≡ mid ++ b ∷ [] → b.variable ≡ field.variable →
+    b.value ≡ pos (natural (take field.bits (drop at bits))) → new ++ decoded rest (drop (at + field.bits) bits) ≡ mid ++ decoded (field ∷ rest) (drop at bits)
+decodes_one field rest bits at mid new b e v n =
+    let same : b ≡ record { variable = field.variable; value = pos (natural (take field.bits (drop at bits))) } = rw (← v, ← n) refl in
+    ap (λ l. l ++ decoded rest (drop (at + field.bits) bits)) e
+    ∙ append_assoc mid (b ∷ []) (decoded rest (drop (at + field.bits) bits))
+    ∙ ap (λ c. mid ++ c ∷ decoded rest (drop (at + field.bits) bits)) same
+    ∙ ap (λ l. mid ++ record { variable = field.variable; value = pos (natural (take field.bits (drop at bits))) } ∷ decoded rest l) (sym (drop-drop field.bits at bits))
 
 pub decode_step : (fields : List Field) (i : ℕ) (d : Field) (bits : List Bool) (at : ℕ) (old mid new : List Binding) (b : Binding) → i < length fields → at ≡ fields_bits (take i fields) →
-    fields_bits fields ≡ length bits → DecodesTo (take i fields) (drop i fields) bits at old mid → new ≡ mid ++ b ∷ [] → b.variable ≡ (slice_index_or fields i d).variable →
+    DecodesTo fields bits old mid (drop i fields) at → new ≡ mid ++ b ∷ [] → b.variable ≡ (slice_index_or fields i d).variable →
     b.value ≡ pos (natural (take (slice_index_or fields i d).bits (drop at bits))) →
-    (at + (slice_index_or fields i d).bits ≡ fields_bits (take (i + 1) fields)) × DecodesTo (take (i + 1) fields) (drop (i + 1) fields) bits (at + (slice_index_or fields i d).bits) old new
-decode_step fields i d bits at old mid new b inside place even h e v n =
+    (at + (slice_index_or fields i d).bits ≡ fields_bits (take (i + 1) fields)) × DecodesTo fields bits old new (drop (i + 1) fields) (at + (slice_index_or fields i d).bits)
+decode_step fields i d bits at old mid new b inside place h e v n =
     let f : Field = slice_index_or fields i d in
     let t : take (i + 1) fields ≡ take i fields ++ f ∷ [] = take_next fields i d inside in
     let s : drop i fields ≡ f ∷ drop (i + 1) fields = drop_next fields i d inside in
     let more : fields_bits (take i fields ++ f ∷ []) ≡ fields_bits (take i fields) + f.bits = omega (arith, sum_by-append (λ x. x.bits) (take i fields) (f ∷ [])) in
-    let room : fields_bits (take i fields) + f.bits ≤ fields_bits fields = fields_fit fields i d inside in
-    let h2 : DecodesTo (take i fields) (f ∷ drop (i + 1) fields) bits at old mid = (let P : List Field → Type 0 = λ fs. DecodesTo (take i fields) fs bits at old mid in subst P s h) in
-    let g : DecodesTo (take i fields ++ f ∷ []) (drop (i + 1) fields) bits (at + f.bits) old new = decodes_next (take i fields) (drop (i + 1) fields) f bits at old mid new b h2 (omega (arith, room, place, even)) e v n in
-    (rw t (omega (arith, more, place)), (let P : List Field → Type 0 = λ fs. DecodesTo fs (drop (i + 1) fields) bits (at + f.bits) old new in subst P (sym t) g))
+    (rw t (omega (arith, more, place)), decodes_one f (drop (i + 1) fields) bits at mid new b e v n ∙ ap (λ l. mid ++ decoded l (drop at bits)) (sym s) ∙ h)
+
+pub decodes_all : (fields : List Field) (i : ℕ) (bits : List Bool) (at : ℕ) (old new : List Binding) → length fields ≤ i → DecodesTo fields bits old new (drop i fields) at →
+    new ≡ old ++ decoded fields bits
+decodes_all fields i bits at old new h d =
+    sym (append-nil new) ∙ ap (λ l. new ++ decoded l (drop at bits)) (sym (drop_all i fields h)) ∙ d

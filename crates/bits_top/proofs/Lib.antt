@@ -1,7 +1,5 @@
 pub mod Answers
 pub mod Binding
-pub mod Ended
-pub mod Goes
 pub mod Runs
 pub mod SameAsks
 pub mod SameMatch
@@ -9,6 +7,5 @@ pub mod SamePut
 pub mod SameRead
 pub mod SameRuns
 pub mod SameWalks
-pub mod StraightRuns
 pub mod Words
 pub mod Written

@@ -23,13 +23,10 @@ use Rattle.term_value.specs.Primitives.{prim, bounded_result}
 use Rattle.term_value.specs.Decode.{Cut, bound_to, bits_taken}
 use Rattle.term_value.specs.Match.{Yes, all_taken, whole, then_take}
 use Rattle.term_value.specs.Machine.{value_trees}
-use Rattle.bits_top.specs.Value as own
-use Rattle.bits_top.specs.Tree as own_tree
-use Rattle.bits_top.specs.Body as own_body
 use Rattle.first_form.specs.Form.{part_size, IsField, AreNew, parts_bits}
-use Rattle.bits_top.specs.Runs.{fields_bits, bounds}
+use Rattle.bits_top.specs.Runs.{built, decoded, fields_bits}
 use Rattle.first_form.specs.Whole.{field_pieces, size_read, part_piece}
-use Rattle.bits_top.proofs.Binding.{narrow_some, targets}
+use Rattle.bits_top.proofs.Binding.{narrow_some}
 use Rattle.first_form.specs.declared.form.Field.{Field}
 use Rattle.first_form.specs.declared.form.Part.{Part}
 use Rattle.bits_top.specs.declared.matching.Binding.{Binding}
@@ -82,34 +79,29 @@ field_sum : (field : Field) (fields : List Field) → fields_bits (field ∷ fie
 field_sum field fields = sum_by-cons (λ f. f.bits) field fields
 
 pub built_parts : (ps : List Part) (before : List Bool) → length before + parts_bits ps ≤ bit_bound →
-    built_on (filled_with (types (map part_piece ps)) (part_values ps)) before ≡ Gives (VBits (before ++ own_tree.built (own_body.segments ps)))
+    built_on (filled_with (types (map part_piece ps)) (part_values ps)) before ≡ Gives (VBits (before ++ built ps))
 built_parts [] before h = ap (λ bits. Gives (VBits bits)) (sym (append-nil before))
 built_parts (part ∷ ps) before h =
     let bits : List Bool = spell (part_size part.bits) (pos part.value) Big in
     one_built part.bits part.value (types (map part_piece ps)) (part_values ps) before (omega (arith, h, part_sum part ps))
     ∙ built_parts ps (before ++ bits) (omega (arith, h, part_sum part ps, length-append before bits, length-spell (part_size part.bits) (pos part.value) Big))
-    ∙ ap (λ b. Gives (VBits b)) (append_assoc before bits (own_tree.built (own_body.segments ps)))
+    ∙ ap (λ b. Gives (VBits b)) (append_assoc before bits (built ps))
 
-pub built_length : (ps : List Part) → length (own_tree.built (own_body.segments ps)) ≡ parts_bits ps
+pub built_length : (ps : List Part) → length (built ps) ≡ parts_bits ps
 built_length [] = refl
 built_length (part ∷ ps) =
     let bits : List Bool = spell (part_size part.bits) (pos part.value) Big in
-    ap length (flat_map-cons (λ segment. spell segment.bits segment.value Big) (record { value = pos part.value; bits = part_size part.bits }) (own_body.segments ps))
-    ∙ omega (arith, part_sum part ps, built_length ps, length-append bits (own_tree.built (own_body.segments ps)), length-spell (part_size part.bits) (pos part.value) Big)
+    ap length (flat_map-cons (λ p. spell (part_size p.bits) (pos p.value) Big) part ps)
+    ∙ omega (arith, part_sum part ps, built_length ps, length-append bits (built ps), length-spell (part_size part.bits) (pos part.value) Big)
 
 pub prim_parts : (s : Setting) (ps : List Part) → parts_bits ps ≤ 134_217_728 →
-    prim s (Build (types (map part_piece ps))) (part_values ps) ≡ Gives (VBits (own_tree.built (own_body.segments ps)))
+    prim s (Build (types (map part_piece ps))) (part_values ps) ≡ Gives (VBits (built ps))
 prim_parts s ps h =
-    let b : List Bool = own_tree.built (own_body.segments ps) in
+    let b : List Bool = built ps in
     let t : nat_le (length b) bit_bound ≡ true = le_true _ _ (omega (arith, h, built_length ps)) in
     ap bounded_result (built_parts ps [] (omega (arith, h))) ∙ ap (λ x. value_or_limit x (VBits b)) t
 
 -- matching
-
--- the variables of a pattern with their integers
-abbrev pub decoded : List Field → List Bool → List Binding
-decoded [] bits = []
-decoded (field ∷ fields) bits = record { variable = field.variable; value = pos (natural (take field.bits bits)) } ∷ decoded fields (drop field.bits bits)
 
 -- the values of variables with these numbers
 abbrev pub numbered : (ℕ → ℕ) → List Binding → List Bound
@@ -191,19 +183,6 @@ fields_taken s number names (field ∷ fields) acc bits within new apart fit eve
     ∙ fields_taken s number (names ++ field.variable ∷ []) fields (bound_to x v acc) (drop field.bits bits) (within_more number names acc field.variable v within) new.1
     (apart_next number names field.variable (map (λ f. f.variable) fields) apart) (All-tail IsField field fields fit) (omega (arith, even, field_sum field fields, length-drop field.bits bits))
     ∙ ap Yes (append_assoc acc (record { variable = x; value = v } ∷ []) (numbered number (decoded fields (drop field.bits bits))))
-
-own_nil : (acc : List own_tree.Bound) (bits : List Bool) → 0 ≡ length bits → own_tree.matched_bits [] bits acc ≡ own_tree.Yes (acc ++ [])
-own_nil acc [] h = ap own_tree.Yes (sym (append-nil acc))
-own_nil acc (b ∷ bits) h = absurd (omega (arith, h))
-
-pub own_taken : (fields : List Field) (acc : List own_tree.Bound) (bits : List Bool) → fields_bits fields ≡ length bits →
-    own_tree.matched_bits (targets fields) bits acc ≡ own_tree.Yes (acc ++ bounds (decoded fields bits))
-own_taken [] acc bits even = own_nil acc bits even
-own_taken (field ∷ fields) acc bits even =
-    let t : nat_le field.bits (length bits) ≡ true = le_true _ _ (omega (arith, even, field_sum field fields)) in
-    let b : own_tree.Bound = record { variable = field.variable; value = own.VInt (pos (natural (take field.bits bits))) } in
-    rw t (own_taken fields (acc ++ b ∷ []) (drop field.bits bits) (omega (arith, even, field_sum field fields, length-drop field.bits bits))
-    ∙ ap own_tree.Yes (append_assoc acc (b ∷ []) (bounds (decoded fields (drop field.bits bits)))))
 
 -- a pattern of new variables keeps its form
 pub fields_put : (bs : List Bound) (number : ℕ → ℕ) (names : List ℕ) (fields : List Field) → Within number names bs → AreNew names fields →

@@ -7,11 +7,15 @@ use Rattle.term_value.specs.ReadTrees.{module_of}
 use Rattle.first_form.specs.Form.{IsStraight, IsShort}
 use Rattle.first_form.specs.Numbers.{IsReadAs}
 use Rattle.first_form.specs.declared.form.Straight.{Straight}
-use Rattle.bits_top.proofs.StraightRuns.{IsStraightRun}
+use Rattle.term_value.specs.Orders.{order_text}
+use Rattle.bits_top.specs.Runs.{HasRun, report_of}
 use Rattle.bits_top.specs.Whole.{IsRunOf}
+use Rattle.bits_top.specs.declared.run.Outcome.{Outcome}
 use Rattle.bits_top.proofs.SameRuns.{same_run}
 
-pub same_run_read : (number_at : Span → ℕ) (m : Module) (others : List (List ℕ)) (s : Straight) (r : ℕ) (order report : List ℕ) → IsReadAs number_at m s → m.atoms ≡ fixed_atoms ++ others →
-    IsStraight s → All IsShort s.items → 1 ≤ r → IsStraightRun s r order report → IsRunOf (module_of number_at m) r order report
-same_run_read number_at m others s r order report read table formed short some run =
-    subst (λ code. IsRunOf code r order report) (sym read.is) (same_run read.number m.atoms others read.name read.main s r order report read.apart table read.first formed short some run)
+pub same_run_read : (number_at : Span → ℕ) (m : Module) (others : List (List ℕ)) (s : Straight) (r : ℕ) (outcome : Outcome) (order report : List ℕ) → IsReadAs number_at m s →
+    m.atoms ≡ fixed_atoms ++ others → IsStraight s → All IsShort s.items → 1 ≤ r → HasRun s r outcome → order ≡ order_text outcome.entries → report ≡ report_of outcome.shown outcome.ending →
+    IsRunOf (module_of number_at m) r order report
+same_run_read number_at m others s r outcome order report read table formed short some run ordered reported =
+    subst (λ code. IsRunOf code r order report) (sym read.is)
+    (same_run read.number m.atoms others read.name read.main s r outcome order report read.apart table read.first formed short some run ordered reported)

@@ -13,14 +13,13 @@ use Rattle.term_value.specs.Read.{body, types, segments}
 use Rattle.term_value.specs.Step.{World, setting, Ask, Show, Ready, Goes, Asks, step, steps}
 use Rattle.term_value.specs.Machine.{value_trees, first_of}
 use Rattle.term_value.specs.Local.{Local, Course, At, Fell, spent, Outcome, Wants, EndsDone, EndsRaised, Unfinished, walk, outcome_in, ask_of, size_of}
-use Rattle.bits_top.specs.Tree as own_tree
-use Rattle.bits_top.specs.Body as own_body
 use Rattle.first_form.specs.Form.{IsField, AreNew, AreItems, bound_by, IsShort, parts_bits}
-use Rattle.bits_top.specs.Runs.{fields_bits, known}
+use Rattle.bits_top.specs.Runs.{bound_value, built, decoded, fields_bits, known}
 use Rattle.first_form.specs.Whole.{field_pieces, part_piece, line, module_by, AreApart}
+use Rattle.bits_top.proofs.Runs.{known_more}
 use Rattle.bits_top.proofs.SamePut.{put_put}
-use Rattle.bits_top.proofs.SameMatch.{part_values, part_trees, values_put, prim_parts, decoded, numbered, Apart, apart_front, fields_taken, fields_put}
-use Rattle.bits_top.proofs.SameAsks.{value_of, due_display, due, standing, open_body, resting, whole_of, AllApart, known_more, within_known, apart_matched, apart_fields, found, even_bits}
+use Rattle.bits_top.proofs.SameMatch.{part_values, part_trees, values_put, prim_parts, numbered, Apart, apart_front, fields_taken, fields_put}
+use Rattle.bits_top.proofs.SameAsks.{due_display, due, standing, open_body, resting, whole_of, AllApart, within_known, apart_matched, apart_fields, found, even_bits}
 use Rattle.first_form.specs.declared.form.Field.{Field}
 use Rattle.first_form.specs.declared.form.Part.{Part}
 use Rattle.first_form.specs.declared.form.Item.{Item}
@@ -68,13 +67,10 @@ steps_ready : (w : World) (vs : Values) → steps w (value_trees vs) ≡ Ready v
 steps_ready w none = refl
 steps_ready w (more v vs) = rw (steps_ready w vs) refl
 
-abbrev pub bits_of : List Part → List Bool
-bits_of ps = own_tree.built (own_body.segments ps)
-
 abbrev pub building : List Part → Tree
 building ps = Form (Table (Build (types (map part_piece ps)))) (value_trees (part_values ps))
 
-builds : (w : World) (ps : List Part) (rest : Shut) → parts_bits ps ≤ 134_217_728 → step w (First (building ps) rest) ≡ Goes 0 (First (Val (VBits (bits_of ps))) rest)
+builds : (w : World) (ps : List Part) (rest : Shut) → parts_bits ps ≤ 134_217_728 → step w (First (building ps) rest) ≡ Goes 0 (First (Val (VBits (built ps))) rest)
 builds w ps rest h = rw (steps_ready w (part_values ps), prim_parts (setting w) ps h) refl
 
 -- the patterns of an item that matches
@@ -126,11 +122,11 @@ walk_shows_then code less number n (suc left) v bs next items =
     let t : Tree = open_body number bs (next ∷ items) in
     walk_asks code less n left (First (display_of v) (Then no_pattern t)) (Show (VInt v)) (λ a. First (Val a) (Then no_pattern t)) refl
 
-open_display_last : (number : ℕ → ℕ) (bs : List Binding) (x : ℕ) → Contains (known bs) x → Apart number (known bs) → open_body number bs (item.Display x ∷ []) ≡ display_of (value_of bs x)
+open_display_last : (number : ℕ → ℕ) (bs : List Binding) (x : ℕ) → Contains (known bs) x → Apart number (known bs) → open_body number bs (item.Display x ∷ []) ≡ display_of (bound_value bs x)
 open_display_last number bs x h apart = rw (found number bs x h apart) refl
 
 open_display_then : (number : ℕ → ℕ) (bs : List Binding) (x : ℕ) (next : Item) (items : List Item) → Contains (known bs) x → Apart number (known bs) →
-    open_body number bs (item.Display x ∷ next ∷ items) ≡ First (display_of (value_of bs x)) (Then no_pattern (open_body number bs (next ∷ items)))
+    open_body number bs (item.Display x ∷ next ∷ items) ≡ First (display_of (bound_value bs x)) (Then no_pattern (open_body number bs (next ∷ items)))
 open_display_then number bs x next items h apart = rw (found number bs x h apart) refl
 
 -- the items one after another
@@ -151,28 +147,28 @@ walk_items code less number (i ∷ items) bs left (suc zero) fits short apart h 
 walk_items code less number (item.Match fields ps ∷ []) bs left (suc (suc n)) fits short apart h =
     let here = apart_fields number bs fields ps [] apart in
     ap (λ t. walk code less (suc (suc n)) (standing left t)) (open_match_last number bs fields ps fits.0.new here)
-    ∙ walk_free code less (suc n) left (First (building ps) (Last (fields_pattern number fields))) (First (Val (VBits (bits_of ps))) (Last (fields_pattern number fields)))
+    ∙ walk_free code less (suc n) left (First (building ps) (Last (fields_pattern number fields))) (First (Val (VBits (built ps))) (Last (fields_pattern number fields)))
     (builds (world_of code) ps (Last (fields_pattern number fields)) (All-head IsShort (item.Match fields ps) [] short))
-    ∙ walk_free code less n left (First (Val (VBits (bits_of ps))) (Last (fields_pattern number fields))) (Val (VBits (bits_of ps)))
-    (takes_last (world_of code) number (known bs) fields (bits_of ps) fits.0.new here fits.0.fields_fit (even_bits (known bs) fields ps fits.0))
-    ∙ walk_done code less n left (VBits (bits_of ps))
+    ∙ walk_free code less n left (First (Val (VBits (built ps))) (Last (fields_pattern number fields))) (Val (VBits (built ps)))
+    (takes_last (world_of code) number (known bs) fields (built ps) fits.0.new here fits.0.fields_fit (even_bits (known bs) fields ps fits.0))
+    ∙ walk_done code less n left (VBits (built ps))
 walk_items code less number (item.Match fields ps ∷ next ∷ items) bs left (suc (suc n)) fits short apart h =
     let here = apart_fields number bs fields ps (next ∷ items) apart in
     let rest : Tree = open_body number bs (next ∷ items) in
     ap (λ t. walk code less (suc (suc n)) (standing left t)) (open_match_then number bs fields ps next items fits.0.new here)
-    ∙ walk_free code less (suc n) left (First (building ps) (Then (fields_pattern number fields) rest)) (First (Val (VBits (bits_of ps))) (Then (fields_pattern number fields) rest))
+    ∙ walk_free code less (suc n) left (First (building ps) (Then (fields_pattern number fields) rest)) (First (Val (VBits (built ps))) (Then (fields_pattern number fields) rest))
     (builds (world_of code) ps (Then (fields_pattern number fields) rest) (All-head IsShort (item.Match fields ps) (next ∷ items) short))
-    ∙ walk_free code less n left (First (Val (VBits (bits_of ps))) (Then (fields_pattern number fields) rest)) (put_in (numbered number (decoded fields (bits_of ps))) rest)
-    (takes_then (world_of code) number (known bs) fields (bits_of ps) rest fits.0.new here fits.0.fields_fit (even_bits (known bs) fields ps fits.0))
-    ∙ ap (λ t. walk code less n (standing left t)) (open_after number bs fields (bits_of ps) (next ∷ items))
-    ∙ walk_items code less number (next ∷ items) (bs ++ decoded fields (bits_of ps)) left n (subst (λ names. AreItems names (next ∷ items)) (sym (known_more bs fields (bits_of ps))) fits.1)
-    (All-tail IsShort (item.Match fields ps) (next ∷ items) short) (apart_matched number bs fields ps (bits_of ps) (next ∷ items) apart) (omega (arith, h))
+    ∙ walk_free code less n left (First (Val (VBits (built ps))) (Then (fields_pattern number fields) rest)) (put_in (numbered number (decoded fields (built ps))) rest)
+    (takes_then (world_of code) number (known bs) fields (built ps) rest fits.0.new here fits.0.fields_fit (even_bits (known bs) fields ps fits.0))
+    ∙ ap (λ t. walk code less n (standing left t)) (open_after number bs fields (built ps) (next ∷ items))
+    ∙ walk_items code less number (next ∷ items) (bs ++ decoded fields (built ps)) left n (subst (λ names. AreItems names (next ∷ items)) (sym (known_more bs fields (built ps))) fits.1)
+    (All-tail IsShort (item.Match fields ps) (next ∷ items) short) (apart_matched number bs fields ps (built ps) (next ∷ items) apart) (omega (arith, h))
 walk_items code less number (item.Display x ∷ []) bs left (suc (suc n)) fits short apart h =
     ap (λ t. walk code less (suc (suc n)) (standing left t)) (open_display_last number bs x fits.0 (apart_front number (known bs) (flat_map bound_by (item.Display x ∷ [])) apart))
-    ∙ walk_shows_last code less number (suc n) left (value_of bs x) bs
+    ∙ walk_shows_last code less number (suc n) left (bound_value bs x) bs
 walk_items code less number (item.Display x ∷ next ∷ items) bs left (suc (suc n)) fits short apart h =
     ap (λ t. walk code less (suc (suc n)) (standing left t)) (open_display_then number bs x next items fits.0 (apart_front number (known bs) (flat_map bound_by (item.Display x ∷ next ∷ items)) apart))
-    ∙ walk_shows_then code less number (suc n) left (value_of bs x) bs next items
+    ∙ walk_shows_then code less number (suc n) left (bound_value bs x) bs next items
 
 -- the ask of a local state
 

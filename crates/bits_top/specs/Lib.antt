@@ -1,12 +1,5 @@
 pub mod Answer
-pub mod Asks
-pub mod Body
 pub mod Command
-pub mod Local
-pub mod Machine
 pub mod Runs
 pub mod Stream
-pub mod Texts
-pub mod Tree
-pub mod Value
 pub mod Whole

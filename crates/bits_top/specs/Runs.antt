@@ -1,15 +1,13 @@
--- The machine in a run of process 1.
-use Rattle.std.specs.Prelude.{ℕ, ℤ, ◌≡◌, ◌≤◌, ◌++◌, List, [], ◌∷◌, codes, map, sum_by, Bool, true, false}
-use Rattle.bits_top.specs.Value.{VInt, VAtom, VBits}
-use Rattle.bits_top.specs.Tree.{Bound, Yes, built, matched}
-use Rattle.bits_top.specs.Local.{Local, EndsDone, EndsRaised, ask_of}
-use Rattle.bits_top.specs.Local as l
-use Rattle.bits_top.specs.Machine.{End, Exit, Process, Running, Left, Machine, start_of, after, IsLegal}
-use Rattle.bits_top.specs.Machine as machine
-use Rattle.bits_top.specs.Body.{segments, pattern, code_of}
-use Rattle.first_form.specs.Form.{AreItems}
-use Rattle.bits_top.specs.Asks.{goes}
-use Rattle.bits_top.specs.declared.entry.Entry.{Entry}
+-- What a module of today's form does (Erlang Reference Manual, "Bit Syntax Expressions", "Expressions"; that a display takes a
+-- reduction, and what an order and a report say of a run, are this project's own).
+use Rattle.std.specs.Prelude.{◌≡◌, ℕ, ℤ, pos, zero, suc, ◌-◌, List, [], ◌∷◌, ◌++◌, take, drop, map, sum_by, cond, nat_eq, codes, Bool, true, false}
+use Rattle.std.specs.List.{flat_map}
+use Rattle.std.specs.Fmt.{signed_decimal}
+use Rattle.bits_value.specs.Number.{natural, spell}
+use Rattle.bits_value.specs.declared.Endian.TheVariants.{Big}
+use Rattle.first_form.specs.Form.{part_size}
+use Rattle.term_value.specs.declared.entry.Entry.{Entry}
+use Rattle.term_value.specs.declared.entry.Entry.TheVariants.{Shown, Ended, Gone}
 use Rattle.first_form.specs.declared.form.Field.{Field}
 use Rattle.first_form.specs.declared.form.Part.{Part}
 use Rattle.first_form.specs.declared.form.Item.{Item}
@@ -17,70 +15,97 @@ use Rattle.first_form.specs.declared.form.Item.TheVariants.{Match, Display}
 use Rattle.first_form.specs.declared.form.Straight.{Straight}
 use Rattle.bits_top.specs.declared.matching.Binding.{Binding}
 use Rattle.bits_top.specs.declared.run.Ending.{Ending}
+use Rattle.bits_top.specs.declared.run.Ending.TheVariants.{Normal, Exhausted}
 use Rattle.bits_top.specs.declared.run.Outcome.{Outcome}
 use Rattle.bits_top.specs.declared.run.Progress.{Progress}
-use Rattle.bits_top.specs.declared.run.Ending.TheVariants.{Normal, Exhausted}
 
-abbrev pub end_of : Ending → End
-end_of Normal = machine.Normal
-end_of Exhausted = Exit (VAtom (codes "reductions"))
+-- the bits of a bit expression: each part's integer in the part's size, one behind another
+abbrev pub built : List Part → List Bool
+built parts = flat_map (λ part. spell (part_size part.bits) (pos part.value) Big) parts
 
--- the bits of a bit pattern
+-- the number of bits of a bit pattern
 abbrev pub fields_bits : List Field → ℕ
 fields_bits fields = sum_by (λ field. field.bits) fields
 
-abbrev pub bounds : List Binding → List Bound
-bounds bindings = map (λ binding. record { variable = binding.variable; value = VInt binding.value }) bindings
+-- the variables of a bit pattern, each with the integer of its bits
+abbrev pub decoded : List Field → List Bool → List Binding
+decoded [] bits = []
+decoded (field ∷ fields) bits = record { variable = field.variable; value = pos (natural (take field.bits bits)) } ∷ decoded fields (drop field.bits bits)
 
 abbrev pub known : List Binding → List ℕ
 known bindings = map (λ binding. binding.variable) bindings
 
--- the bits match the pattern, with these bindings behind the earlier ones
-pub record Decodes (fields : List Field) (bits : List Bool) (old new : List Binding) : Type 0 where
-  pub others : List Bound
-  pub gives : matched (pattern fields) (VBits bits) ≡ Yes others
-  pub bound : bounds new ≡ bounds old ++ others
-  pub names : known new ≡ known old ++ map (λ field. field.variable) fields
+-- the value of a variable that is bound; no item names another
+abbrev pub bound_value : List Binding → ℕ → ℤ
+bound_value [] variable = pos 0
+bound_value (binding ∷ bindings) variable = cond (nat_eq binding.variable variable) binding.value (bound_value bindings variable)
 
--- the match gives these bindings behind the earlier ones
-abbrev pub Binds : List Field → List Part → List Binding → List Binding → Type 0
-Binds fields parts old new = Decodes fields (built (segments parts)) old new
+-- what items display one after another, with these variables bound and so many reductions left
+abbrev pub shown_of : List Binding → List Item → ℕ → List ℤ
+shown_of bindings [] left = []
+shown_of bindings (Match fields parts ∷ items) left = shown_of (bindings ++ decoded fields (built parts)) items left
+shown_of bindings (Display variable ∷ items) zero = []
+shown_of bindings (Display variable ∷ items) (suc left) = bound_value bindings variable ∷ shown_of bindings items left
 
--- the machine with one process
-abbrev pub with_one : Straight → ℕ → Process → List ℤ → Machine
-with_one straight reductions process shown = record { code = code_of straight; reductions = reductions; processes = process ∷ []; shown = map (λ n. VInt n) shown }
+-- how they end: a display for which no reduction is left is the end
+abbrev pub ending_of : List Binding → List Item → ℕ → Ending
+ending_of bindings [] left = Normal
+ending_of bindings (Match fields parts ∷ items) left = ending_of (bindings ++ decoded fields (built parts)) items left
+ending_of bindings (Display variable ∷ items) zero = Exhausted
+ending_of bindings (Display variable ∷ items) (suc left) = ending_of bindings items left
 
-abbrev pub start : Straight → ℕ → Machine
-start straight reductions = start_of (code_of straight) reductions
+-- the entries of what process 1 displayed
+abbrev pub shown_entries : List ℤ → List Entry
+shown_entries shown = map (λ n. Shown 1) shown
 
--- process 1 runs, after the entries in which these integers were displayed, and asks for this next
-pub record Runs (straight : Straight) (reductions : ℕ) (entries : List Entry) (shown : List ℤ) (outcome : l.Outcome) : Type 0 where
-  pub local : Local
-  pub legal : IsLegal (start straight reductions) entries
-  pub state : after (start straight reductions) entries ≡ with_one straight reductions (Running local []) shown
-  pub ask : ask_of (code_of straight) local ≡ outcome
+-- then it ended; it had no shared buffer, and moved no bits of one
+abbrev pub end_entries : List Entry
+end_entries = Ended 1 ∷ Gone 1 0 0 0 ∷ []
 
--- process 1 stands before these items
-pub record Stands (straight : Straight) (reductions : ℕ) (progress : Progress) (items : List Item) : Type 0 where
-  pub runs : Runs straight reductions progress.entries.items progress.shown.items (goes (bounds progress.bindings.items) items progress.left)
-  pub fits : AreItems (known progress.bindings.items) items
-
--- what a process asks for at its end
-abbrev pub asks_end : Ending → l.Outcome
-asks_end Normal = EndsDone
-asks_end Exhausted = EndsRaised (VAtom (codes "reductions"))
-
--- From standing before the item it comes to stand before those after it, or to be out of reductions.
-abbrev pub Advances : Bool → Item → Progress → Progress → Type 0
-Advances true item old new = (straight : Straight) (reductions : ℕ) (items : List Item) → Stands straight reductions old (item ∷ items) → Stands straight reductions new items
-Advances false item old new = (straight : Straight) (reductions : ℕ) (items : List Item) → Stands straight reductions old (item ∷ items) →
-    Runs straight reductions new.entries.items new.shown.items (asks_end Exhausted)
-
--- a whole run
+-- a whole run, of which the call of `main/0` takes the first reduction
 pub record HasRun (straight : Straight) (reductions : ℕ) (outcome : Outcome) : Type 0 where
-  pub legal : IsLegal (start straight reductions) outcome.entries
-  pub state : after (start straight reductions) outcome.entries ≡ with_one straight reductions (Left (end_of outcome.ending)) outcome.shown
+  pub shown : outcome.shown ≡ shown_of [] straight.items (reductions - 1)
+  pub ending : outcome.ending ≡ ending_of [] straight.items (reductions - 1)
+  pub entries : outcome.entries ≡ shown_entries outcome.shown ++ end_entries
 
--- From its last ask the run comes to its end.
-abbrev pub Finishes : Progress → Ending → Outcome → Type 0
-Finishes progress ending outcome = (straight : Straight) (reductions : ℕ) → Runs straight reductions progress.entries.items progress.shown.items (asks_end ending) → HasRun straight reductions outcome
+-- a match binds its variables behind the earlier ones
+pub record Matches (fields : List Field) (parts : List Part) (old new : Progress) : Type 0 where
+  pub bindings : new.bindings.items ≡ old.bindings.items ++ decoded fields (built parts)
+  pub left : new.left ≡ old.left
+  pub shown : new.shown.items ≡ old.shown.items
+  pub entries : new.entries.items ≡ old.entries.items
+
+-- a display takes a reduction
+pub record Shows (variable : ℕ) (old new : Progress) : Type 0 where
+  pub bindings : new.bindings.items ≡ old.bindings.items
+  pub left : old.left ≡ suc new.left
+  pub shown : new.shown.items ≡ old.shown.items ++ bound_value old.bindings.items variable ∷ []
+  pub entries : new.entries.items ≡ old.entries.items ++ Shown 1 ∷ []
+
+-- none was left for a display
+pub record Exhausts (old new : Progress) : Type 0 where
+  pub left : old.left ≡ 0
+  pub shown : new.shown.items ≡ old.shown.items
+  pub entries : new.entries.items ≡ old.entries.items
+
+-- an item is done, where the reductions sufficed
+abbrev pub Advances : Bool → Item → Progress → Progress → Type 0
+Advances true (Match fields parts) old new = Matches fields parts old new
+Advances true (Display variable) old new = Shows variable old new
+Advances false (Match fields parts) old new = ⊥
+Advances false (Display variable) old new = Exhausts old new
+
+-- what a run comes to after its items
+pub record Finishes (progress : Progress) (how : Ending) (outcome : Outcome) : Type 0 where
+  pub shown : outcome.shown ≡ progress.shown.items
+  pub ending : outcome.ending ≡ how
+  pub entries : outcome.entries ≡ progress.entries.items ++ end_entries
+
+-- the line of process 1 in a report, where it didn't end normally
+abbrev pub ending_text : Ending → List ℕ
+ending_text Normal = []
+ending_text Exhausted = codes "exit <0.1.0> reductions\n"
+
+-- the report: what was displayed, a line each, and how it ended
+abbrev pub report_of : List ℤ → Ending → List ℕ
+report_of shown ending = flat_map (λ n. signed_decimal n ++ codes "\n") shown ++ ending_text ending

@@ -2,7 +2,6 @@
 #![tactic(auto)]
 
 mod command;
-mod entry;
 mod matching;
 mod plain;
 mod program;

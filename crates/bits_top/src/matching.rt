@@ -3,9 +3,7 @@ ghost use Rattle.std.specs.Prelude.{◌≡◌, ◌≤◌, ◌+◌, ◌*◌, ◌/
 ghost use Rattle.bits_value.specs.Bits.{all_bits, bit_list};
 ghost use Rattle.bits_value.specs.Number.{natural, spell};
 ghost use Rattle.first_form.specs.Form.{IsField, part_size, parts_bits};
-ghost use Rattle.bits_top.specs.Body.{segments};
-ghost use Rattle.bits_top.specs.Runs.{Binds, Decodes, fields_bits};
-ghost use Rattle.bits_top.specs.Tree.{built};
+ghost use Rattle.bits_top.specs.Runs.{built, decoded, fields_bits};
 
 use bits_value::{Bits, Endian, put};
 use first_form::{Field, Part};
@@ -51,7 +49,7 @@ fn write(bytes: &mut Vec<u8>, at: u32, part: &Part)
 fn build(alloc: Global, parts: &[Part]) -> Result<Vec<u8>, AllocError>
     requires { parts_bits parts.now ≤ 134_217_728 }
     ensures room { IfOk result (λ bytes. parts_bits parts.now ≤ 8 * length bytes.items) }
-    ensures bits { IfOk result (λ bytes. take (parts_bits parts.now) (all_bits bytes.items) ≡ built (segments parts.now)) }
+    ensures bits { IfOk result (λ bytes. take (parts_bits parts.now) (all_bits bytes.items) ≡ built parts.now) }
 {
     let mut bytes = vec![in alloc; 0u8; total(parts).div_ceil(8) as usize]?;
     let mut at = 0;
@@ -94,7 +92,7 @@ fn decode(bits: &Bits, fields: &[Field], bindings: &mut Vec<Binding>) -> Result<
     requires short { fields_bits fields.now ≤ 134_217_728 }
     requires even { fields_bits fields.now ≡ length bits.now }
     requires fit { All IsField fields.now }
-    ensures { OnOk result (Decodes fields.now bits.now bindings.old.items bindings.new.items) }
+    ensures { OnOk result (bindings.new.items ≡ bindings.old.items ++ decoded fields.now bits.now) }
 {
     let mut at = 0;
     for field in fields {
@@ -114,7 +112,7 @@ pub(crate) fn bind(
     requires short { parts_bits parts.now ≤ 134_217_728 }
     requires even { fields_bits fields.now ≡ parts_bits parts.now }
     requires fit { All IsField fields.now }
-    ensures { OnOk result (Binds fields.now parts.now bindings.old.items bindings.new.items) }
+    ensures { OnOk result (bindings.new.items ≡ bindings.old.items ++ decoded fields.now (built parts.now)) }
 {
     let bytes = build(alloc, parts)?;
     let bits = Bits::of(&bytes, 0, total(parts));

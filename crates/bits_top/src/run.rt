@@ -1,17 +1,15 @@
 // The run of a module: process 1 alone, from the call of `main/0` to its end.
-ghost use Rattle.std.specs.Prelude.{◌≡◌, ◌≤◌, ◌∷◌, ℕ, List, All, Contains, IfOk, OnOk, Some};
+ghost use Rattle.std.specs.Prelude.{◌≡◌, ◌≤◌, ◌∷◌, ℕ, List, All, Contains, IfOk, OnOk};
 ghost use Rattle.first_form.specs.Form.{IsItem, IsStraight, IsShort};
-ghost use Rattle.bits_top.specs.Runs.{Advances, Finishes, HasRun, Stands, bounds, known};
-ghost use Rattle.bits_top.specs.Tree.{value_in};
-ghost use Rattle.bits_top.specs.Value.{VInt};
+ghost use Rattle.bits_top.specs.Runs.{Advances, Finishes, HasRun, bound_value, known};
 ghost use Rattle.first_form.specs.declared.form.Item.{Item};
 ghost use Rattle.first_form.specs.declared.form.Straight.{Straight};
 
-use crate::entry::Entry;
 use crate::matching::{Binding, bind};
 use erl_syntax::Listed;
 use first_form::{Item, Straight};
 use std::alloc::{AllocError, Global};
+use term_value::Entry;
 
 // How a run ended.
 #[derive(Clone, Copy, Debug, PartialEq, Eq)]
@@ -42,7 +40,7 @@ struct Progress {
 // The value of a variable that is bound.
 fn value_of(bindings: &[Binding], variable: u8) -> i128
     requires { Contains (known bindings.now) variable }
-    ensures { value_in (bounds bindings.now) variable ≡ Some (VInt result) }
+    ensures { result ≡ bound_value bindings.now variable }
 {
     for binding in bindings {
         if binding.variable == variable {

@@ -2,14 +2,13 @@
 ghost use Rattle.std.specs.Prelude.{◌≡◌, ◌++◌, [], ◌∷◌, codes, decimal, map, IfOk, OnOk};
 ghost use Rattle.std.specs.List.{flat_map};
 ghost use Rattle.std.specs.Fmt.{signed_decimal};
-ghost use Rattle.bits_top.specs.Texts.{entry_text, order_text, processes_text};
-ghost use Rattle.bits_top.specs.Machine.{Left};
-ghost use Rattle.bits_top.specs.Runs.{end_of};
+ghost use Rattle.term_value.specs.Orders.{entry_text, order_text};
+ghost use Rattle.bits_top.specs.Runs.{ending_text, report_of};
 
-use crate::entry::Entry;
 use crate::run::Ending;
 use itoa::Buffer;
 use std::alloc::{AllocError, Global};
+use term_value::Entry;
 
 // Adds a number in decimal.
 fn push_number(text: &mut Vec<u8>, number: u64) -> Result<(), AllocError>
@@ -76,7 +75,7 @@ fn push_shown(text: &mut Vec<u8>, number: i128) -> Result<(), AllocError>
 
 // The line of process 1, where it didn't end normally.
 fn end_line(ending: Ending) -> &'static [u8]
-    ensures { result.now ≡ processes_text 1 (Left (end_of ending) ∷ []) }
+    ensures { result.now ≡ ending_text ending }
 {
     match ending {
         Ending::Normal => b"",
@@ -86,7 +85,7 @@ fn end_line(ending: Ending) -> &'static [u8]
 
 // The report of a run of process 1: what it displayed, a line each, and how it ended where it didn't end normally.
 pub(crate) fn report(alloc: Global, shown: &[i128], ending: Ending) -> Result<Vec<u8>, AllocError>
-    ensures { IfOk result (λ text. text.items ≡ flat_map (λ number. signed_decimal number ++ codes "\n") shown.now ++ processes_text 1 (Left (end_of ending) ∷ [])) }
+    ensures { IfOk result (λ text. text.items ≡ report_of shown.now ending) }
 {
     let mut text = Vec::new(alloc);
     for number in shown {

@@ -6,5 +6,5 @@ use Rattle.bits_top.proofs.matching.decode.Given as goal
 abbrev pub invariant-loop-field : goal.invariant-loop-field
 invariant-loop-field l = record {
   place : l.at ≡ fields_bits (take l.field-index l.fields);
-  decoded : DecodesTo (take l.field-index l.fields) (drop l.field-index l.fields) l.bits l.at l.initial.bindings.items l.bindings.items;
+  decoded : DecodesTo l.fields l.bits l.initial.bindings.items l.bindings.items (drop l.field-index l.fields) l.at;
 }

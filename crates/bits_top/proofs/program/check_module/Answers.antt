@@ -1,4 +1,4 @@
-use Rattle.std.proofs.Common.{◌≤◌, length, codes, refl, arith, rules, inl, inr}
+use Rattle.std.proofs.Common.{◌≤◌, length, codes, refl, arith, inl, inr}
 use Rattle.bits_top.proofs.Answers.{refused_check, held_long, unaccepted}
 use Rattle.bits_top.proofs.program.check_module.Goals as goal
 

@@ -1,5 +1,5 @@
 use Rattle.std.proofs.Common.{sym, ◌∙◌}
-use Rattle.bits_top.proofs.Answers.{checked_once, same_run_asked, smooth_done, smooth_refused, spelled_once}
+use Rattle.bits_top.proofs.Answers.{same_run_asked, smooth_done, smooth_refused, spelled_once}
 use Rattle.bits_top.specs.declared.command.Command.TheVariants.{Check, Run}
 use Rattle.bits_top.proofs.program.top.Goals as goal
 

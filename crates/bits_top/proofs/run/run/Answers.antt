@@ -1,11 +1,11 @@
-use Rattle.std.proofs.Common.{◌-◌, arith, refl}
+use Rattle.std.proofs.Common.{◌-◌, refl}
 use Rattle.bits_top.proofs.Runs.{advanced, exhausted, ok_finished, stands_first}
 use Rattle.bits_top.specs.declared.run.Ending.TheVariants.{Exhausted}
 use Rattle.bits_top.proofs.run.run.Goals as goal
 
 pub loop-item-init : goal.loop-item-init
 loop-item-init c =
-    stands_first c.args.straight.now c.args.reductions (c.args.reductions - 1) _ (omega (arith, c.requires.some)) refl c.new.ensures.items c.new-2.ensures.items c.new-3.ensures.items c.requires.formed.items
+    stands_first c.args.straight.now c.args.reductions (c.args.reductions - 1) _ refl refl c.new.ensures.items c.new-2.ensures.items c.new-3.ensures.items c.requires.formed.items
 
 pub returns-then-not-branch : goal.returns-then-not-branch
 returns-then-not-branch c =

@@ -1,5 +1,5 @@
 use Rattle.std.proofs.Common.{drop}
-use Rattle.bits_top.specs.Runs.{Stands}
+use Rattle.bits_top.proofs.Runs.{Stands}
 use Rattle.bits_top.proofs.run.run.Given as goal
 
 abbrev pub invariant-loop-item : goal.invariant-loop-item

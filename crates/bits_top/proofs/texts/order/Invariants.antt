@@ -1,5 +1,5 @@
 use Rattle.std.proofs.Common.{◌≡◌, take}
-use Rattle.bits_top.specs.Texts.{order_text}
+use Rattle.term_value.specs.Orders.{order_text}
 use Rattle.bits_top.proofs.texts.order.Given as goal
 
 abbrev pub invariant-loop-entry : goal.invariant-loop-entry
