@@ -66,10 +66,7 @@ fn each_clause_has_variables_of_its_own(rt: HostRuntime) -> Result<(), Fail> {
             "main() -> Z = 1, case Z of X -> X; Y -> {Y, Z} end.",
             " 0! 0 1! 1 2! 2 0",
         ),
-        (
-            "main() -> case 1 of X -> X; X -> X end.",
-            " 0! 0 1! 1",
-        ),
+        ("main() -> case 1 of X -> X; X -> X end.", " 0! 0 1! 1"),
         ("main() -> receive X when X > 0 -> X end.", " 0! 0 0"),
     ];
     all_have(&rt, rt.alloc(), &rows)
