@@ -152,9 +152,10 @@ pub data IsPlace (f : Function) : Place → Type 0 where
   compared : (s : Scope) (at : Span) (name : List ℕ) (bound_at : Span) → IsTarget f s at name → Found s.known name bound_at → IsPlace f (record { at = at; bound_at = bound_at })
   bound : (s : Scope) (at : Span) (name : List ℕ) → IsTarget f s at name → (IsKnown s.known name → ⊥) → IsPlace f (record { at = at; bound_at = at })
 
-abbrev pub Rising : List Place → Type 0
-Rising [] = Unit {0}
-Rising (a ∷ bs) = All (λ b. IsBefore a.at b.at) bs × Rising bs
+-- each stands before those behind it, by the places that they have
+abbrev pub RisingBy : {X : Type 0} → (X → Span) → List X → Type 0
+RisingBy at [] = Unit {0}
+RisingBy at (a ∷ bs) = All (λ b. IsBefore (at a) (at b)) bs × RisingBy at bs
 
 -- the places at which variables get their values, in the order of the text
 pub data Binders : List Place → List Span → Type 0 where
@@ -162,12 +163,22 @@ pub data Binders : List Place → List Span → Type 0 where
   binds : (a : Place) (more : List Place) (bound : List Span) → a.at ≡ a.bound_at → Binders more bound → Binders (a ∷ more) (a.at ∷ bound)
   repeats : (a : Place) (more : List Place) (bound : List Span) → a.at ≢ a.bound_at → Binders more bound → Binders (a ∷ more) bound
 
+-- The places of a function's variables, each once in the order of the text, and those at which they get their values.
+pub record HasPlaces (f : Function) (places : List Place) (bound : List Span) : Type 0 where
+  pub rising : RisingBy (λ a. a.at) places
+  pub stand : All (IsPlace f) places
+  pub whole : (a : Place) → IsPlace f a → Contains places a
+  pub binders : Binders places bound
+
 -- A variable's number is how many get their values further left in the function.
-pub record IsUse (bound : List Span) (a : Place) (u : VarUse) : Type 0 where
+pub record IsNumber (bound : List Span) (a : Place) (number : ℕ) : Type 0 where
   pub front : List Span
   pub back : List Span
   pub stands : bound ≡ front ++ a.bound_at ∷ back
-  pub number : u.number ≡ length front
+  pub count : number ≡ length front
+
+pub record IsUse (bound : List Span) (a : Place) (u : VarUse) : Type 0 where
+  pub number : IsNumber bound a u.number
   pub binds : IsTrue u.binds ↔ (a.at ≡ a.bound_at)
 
 pub data Uses (bound : List Span) : List Place → List VarUse → Type 0 where
@@ -177,14 +188,27 @@ pub data Uses (bound : List Span) : List Place → List VarUse → Type 0 where
 -- the variables of a function, each place once
 pub record IsNumbered (f : Function) (uses : List VarUse) : Type 0 where
   pub places : List Place
-  pub rising : Rising places
-  pub stand : All (IsPlace f) places
-  pub whole : (a : Place) → IsPlace f a → Contains places a
   pub bound : List Span
-  pub binders : Binders places bound
+  pub has : HasPlaces f places bound
   pub uses_of : Uses bound places uses
 
 -- those of all functions, one function behind another
 pub data AreNumbered : List Function → List VarUse → Type 0 where
   none : AreNumbered [] []
   and_then : (f : Function) (fs : List Function) (front back : List VarUse) → IsNumbered f front → AreNumbered fs back → AreNumbered (f ∷ fs) (front ++ back)
+
+-- the variables of a function have these numbers at their places
+pub record AreNumbersIn (number_at : Span → ℕ) (f : Function) : Type 0 where
+  pub places : List Place
+  pub bound : List Span
+  pub has : HasPlaces f places bound
+  pub numbers : (a : Place) → IsPlace f a → IsNumber bound a (number_at a.at)
+
+-- those of each function of a module
+abbrev pub AreNumbersOf : (Span → ℕ) → Module → Type 0
+AreNumbersOf number_at m = All (AreNumbersIn number_at) m.functions
+
+-- the module's variables have numbers
+pub record HaveNumbers (m : Module) : Type 0 where
+  pub number_at : Span → ℕ
+  pub numbers : AreNumbersOf number_at m

@@ -2,7 +2,7 @@
 --
 -- The module's table of atoms begins with the fixed atoms. Each other atom of the text follows once, in the order in which
 -- it first stands there, wherever it stands: also in a form that has no effect, and as a word of a segment's type.
-use Rattle.std.specs.Prelude.{◌≡◌, ℕ, ◌+◌, ◌≤◌, nat_lt, if◌then◌else◌, List, [], ◌∷◌, ◌++◌, length, map, bytes_eq, None}
+use Rattle.std.specs.Prelude.{◌≡◌, ℕ, ◌+◌, ◌<◌, ◌≤◌, nat_lt, Bool, true, false, if◌then◌else◌, List, [], ◌∷◌, ◌++◌, length, map, slice_index_or, bytes_eq, None}
 use Rattle.erl_syntax.specs.Atoms.{fixed_atoms}
 use Rattle.erl_syntax.specs.Characters.{integer_value, character_number, string_characters, atom_text}
 use Rattle.erl_syntax.specs.Grammar.{Of, Forms, Spells, strict}
@@ -23,6 +23,10 @@ longest_text = 1048576
 abbrev pub number_in : List (List ℕ) → List ℕ → ℕ
 number_in [] chars = 0
 number_in (atom ∷ atoms) chars = if bytes_eq atom chars then 0 else 1 + number_in atoms chars
+
+-- each atom's number is its only place in the table
+abbrev pub StandOnce : List (List ℕ) → Type 0
+StandOnce atoms = (i : ℕ) → i < length atoms → number_in atoms (slice_index_or atoms i []) ≡ i
 
 -- the table with that atom, which stands there once
 abbrev pub with_atom : List (List ℕ) → List ℕ → List (List ℕ)
@@ -61,9 +65,25 @@ characters_of _ bs = []
 abbrev pub word_of : List ℕ → List (List ℕ) → Token → Word
 word_of text table t = record { kind = t.kind; at = t.span; number = number_of table t.kind (token_text text t); chars = characters_of t.kind (token_text text t) }
 
--- the tokens of a text with what they stand for, where the atoms have the table's numbers
+-- two strings of which one follows the other
+abbrev pub are_strings : TokenKind → TokenKind → Bool
+are_strings k.Str k.Str = true
+are_strings _ _ = false
+
+-- a string before another one is one string with it, at its place ("String Literal Concatenation")
+abbrev pub before : Word → List Word → List Word
+before w [] = w ∷ []
+before w (v ∷ ws) = if are_strings w.kind v.kind then record { kind = w.kind; at = w.at; number = w.number; chars = w.chars ++ v.chars } ∷ ws else w ∷ v ∷ ws
+
+-- strings that follow one another are one
+abbrev pub joined : List Word → List Word
+joined [] = []
+joined (w ∷ ws) = before w (joined ws)
+
+-- The tokens of a text with what they stand for, where the atoms have the table's numbers. Layout and comments may stand between
+-- strings that are one.
 abbrev pub words_of : List ℕ → List (List ℕ) → List Token → List Word
-words_of text table tokens = map (word_of text table) tokens
+words_of text table tokens = joined (map (word_of text table) tokens)
 
 -- ---- Reading
 

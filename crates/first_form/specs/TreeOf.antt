@@ -2,7 +2,7 @@
 -- "Modules", "Bit Syntax Expressions" and "Expressions").
 use Rattle.std.specs.Prelude.{◌≡◌, ℕ, pos, List, [], ◌∷◌, ◌++◌, map, codes, decimal, All, Option, Some, None}
 use Rattle.std.specs.List.{flat_map}
-use Rattle.erl_syntax.specs.Checking.{Spelled, IsBefore}
+use Rattle.erl_syntax.specs.Checking.{Spelled, RisingBy}
 use Rattle.erl_syntax.specs.Tokens.{Lexes, token_text}
 use Rattle.erl_syntax.specs.declared.span.Span.{Span}
 use Rattle.erl_syntax.specs.declared.token.Token.{Token}
@@ -79,11 +79,6 @@ pub data AreItemsOf (m : Module) : List Item → List Span → List syntax_item.
   and_item : (one : Item) (here : List Span) (i : syntax_item.Item) (items : List Item) (places : List Span) (is : List syntax_item.Item) →
       IsItemOf m one here i → AreItemsOf m items places is → AreItemsOf m (one ∷ items) (here ++ places) (i ∷ is)
 
--- places of which each stands before those behind it
-abbrev pub Rising : List Span → Type 0
-Rising [] = Unit {0}
-Rising (a ∷ places) = All (IsBefore a) places × Rising places
-
 -- The module has this name, exports `main/0`, and has this one function, whose one clause has these items. Its variables get
 -- their values at places that rise, as they do in every text.
 pub record IsTreeOf (m : Module) (straight : Straight) : Type 0 where
@@ -104,7 +99,7 @@ pub record IsTreeOf (m : Module) (straight : Straight) : Type 0 where
   pub no_guard : clause.guard.alternatives ≡ []
   pub places : List Span
   pub items : AreItemsOf m straight.items places clause.body
-  pub rising : Rising places
+  pub rising : RisingBy (λ a. a) places
 
 -- ---- The tokens
 
@@ -133,11 +128,9 @@ words_of straight = codes "-" ∷ codes "module" ∷ codes "(" ∷ straight.name
 
 -- ---- The form
 
--- The text, whose module this is, has the form: such a tree, and just those tokens, without parentheses around its parts and with its
--- numbers in decimal.
-pub record IsForm (text : List ℕ) (m : Module) (straight : Straight) : Type 0 where
+-- The text has the form: its tokens are just the module's words, without parentheses around parts and with numbers in decimal.
+pub record IsForm (text : List ℕ) (straight : Straight) : Type 0 where
   pub formed : IsStraight straight
-  pub tree : IsTreeOf m straight
   pub tokens : List Token
   pub lexes : Lexes text tokens None
   pub words : map (token_text text) tokens ≡ words_of straight
