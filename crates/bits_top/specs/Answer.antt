@@ -4,12 +4,13 @@ use Rattle.std.specs.Io.KnownBytes.{Appends, IsAtEnd}
 use Rattle.io_ports.specs.Causes.{Rose}
 use Rattle.bits_top.specs.Stream.{AppendsPrefix}
 use Rattle.erl_syntax.specs.Atoms.{fixed_atoms}
+use Rattle.erl_syntax.specs.Checking.{AreNumbersOf, HaveNumbers}
+use Rattle.erl_syntax.specs.Reading.{StandOnce}
 use Rattle.erl_syntax.specs.declared.module.Module.{Module}
 use Rattle.erl_syntax.specs.declared.span.Span.{Span}
 use Rattle.module_accept.specs.Accepting.{Accepts, IsDue}
 use Rattle.term_value.specs.ReadTrees.{module_of}
 use Rattle.first_form.specs.TreeOf.{IsForm, IsTreeOf}
-use Rattle.first_form.specs.Numbers.{AreNumbersOf, HaveNumbers, StandOnce}
 use Rattle.first_form.specs.declared.form.Straight.{Straight}
 use Rattle.bits_top.specs.Whole.{IsRunOf}
 use Rattle.bits_top.specs.declared.status.Status.{Status}
@@ -62,7 +63,7 @@ pub record IsAccepted (source : Port) (text : List ℕ) (tree : Module) : Type 0
   pub whole : IsWhole source text tree
   pub numbered : ∥ HaveNumbers tree ∥₁
   pub straight : Straight
-  pub form : IsForm text tree straight
+  pub form : IsForm text straight
 
 pub record IsTooLong (source : Port) (text line : List ℕ) : Type 0 where
   pub held : Held source text
@@ -81,7 +82,7 @@ pub record IsUnaccepted (source : Port) (text line : List ℕ) : Type 0 where
 pub record IsNotBuilt (source : Port) (text line : List ℕ) : Type 0 where
   pub tree : Module
   pub whole : IsWhole source text tree
-  pub none : (m : Module) (straight : Straight) → Accepts text m → IsForm text m straight → ⊥
+  pub none : (straight : Straight) → IsForm text straight → ⊥
   pub due : line ≡ codes "1:1: not built\n"
 
 -- The text is refused with this line, whatever is to be done with it.
@@ -235,12 +236,12 @@ pub record IsSmooth (source report order : Port) : Type 0 where
   pub tree : Module
   pub accepts : Accepts text tree
   pub straight : Straight
-  pub form : IsForm text tree straight
+  pub form : IsForm text straight
   pub well : AreWell source report order
 
 -- a text that can't be run: it is too long, or no accepted module's, or hasn't today's form
 abbrev pub CantRun : List ℕ → Type 0
-CantRun text = (text_limit < length text) ⊎ (((m : Module) → Accepts text m → ⊥) ⊎ ((m : Module) (straight : Straight) → Accepts text m → IsForm text m straight → ⊥))
+CantRun text = (text_limit < length text) ⊎ (((m : Module) → Accepts text m → ⊥) ⊎ ((straight : Straight) → IsForm text straight → ⊥))
 
 -- The source tells a text that can't be run, and no count rises.
 pub record IsSmoothRefusal (source report order : Port) : Type 0 where

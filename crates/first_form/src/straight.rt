@@ -1,6 +1,6 @@
 ghost use Rattle.std.specs.Prelude.{◌≡◌, ◌≤◌, length, All, IfOk, IfSome, None};
 ghost use Rattle.first_form.specs.Form.{IsShort};
-ghost use Rattle.first_form.specs.TreeOf.{IsForm};
+ghost use Rattle.first_form.specs.TreeOf.{IsForm, IsTreeOf};
 ghost use Rattle.first_form.specs.declared.form.Straight.{Straight};
 
 use crate::fits::is_straight;
@@ -10,7 +10,8 @@ use crate::texts::has_words;
 use erl_syntax::Module;
 use std::alloc::{AllocError, Global};
 
-/// The module of this form that a text of at most 1,048,576 bytes spells, where its tree is this one and it has the form.
+/// The module of this form that a text of at most 1,048,576 bytes has, where its tree is this one. Of a text's own tree it is
+/// the tokens alone that decide: `forms_have_trees`.
 ///
 /// The layout and the comments of the text are free; its tokens are just those of the form, without parentheses around parts,
 /// and with numbers in decimal.
@@ -24,8 +25,8 @@ pub fn straight_of(
     module: &Module,
 ) -> Result<Option<Straight>, AllocError>
     requires { length text.now ≤ 1048576 }
-    ensures formed { IfOk result (λ found. IfSome found (λ straight. IsForm text.now «module».now straight)) }
-    ensures none { IfOk result (λ found. found ≡ None → (straight : Straight) → IsForm text.now «module».now straight → ⊥) }
+    ensures formed { IfOk result (λ found. IfSome found (λ straight. IsForm text.now straight × IsTreeOf «module».now straight)) }
+    ensures none { IfOk result (λ found. found ≡ None → (straight : Straight) → IsForm text.now straight → IsTreeOf «module».now straight → ⊥) }
     ensures short { IfOk result (λ found. IfSome found (λ straight. All IsShort straight.items)) }
 {
     let Some(straight) = tree_of(alloc, module)? else {
