@@ -1,16 +1,19 @@
 """Times `bits_cli check` on modules that grow, and prints the time per byte against that of the smallest: 1 and below is linear.
 
-The program's start counts too. Called by check.sh with the path of the program.
+The time is the processor's, of the program with its start, so that other work on the machine doesn't count. A run's time is
+counted in hundredths of a second at least, which the shortest ones stay below: they are run again and again up to a tenth.
+Called by check.sh with the path of the program.
 """
+import os
 import pathlib
 import subprocess
 import sys
 import tempfile
-import time
 
 KIBIBYTE = 1024
 SIZES = (64 * KIBIBYTE, 256 * KIBIBYTE, 1024 * KIBIBYTE - 64)
-TRIES = 5
+LEAST_TIME = 0.1
+LEAST_RUNS = 3
 HEAD = "-module(m).\n-export([main/0]).\n"
 
 
@@ -42,6 +45,10 @@ def string(size):
     return repeated(size, HEAD + 'main() -> "', lambda n: "abcdefgh", '".\n')
 
 
+def strings(size):
+    return repeated(size, HEAD + 'main() -> ""', lambda n: ' "a"', ".\n")
+
+
 def comments(size):
     return repeated(size, HEAD, lambda n: "% " + "a long comment " * 60 + "\n", "main() -> 1.\n")
 
@@ -55,19 +62,29 @@ KINDS = {
     "one list of many expressions": listed,
     "one body of many expressions": body,
     "one long string": string,
+    "one string in many pieces": strings,
     "long comments": comments,
     "one function with many variables": variables,
 }
 
 
+def spent_by(words):
+    """The processor's time of a run, which has to end with status 0."""
+    process = subprocess.Popen(words, stdout=subprocess.DEVNULL)
+    _, status, used = os.wait4(process.pid, 0)
+    process.returncode = os.waitstatus_to_exitcode(status)
+    if process.returncode != 0:
+        sys.exit(f"{' '.join(words)}: status {process.returncode}")
+    return used.ru_utime + used.ru_stime
+
+
 def seconds(program, source):
-    """The least time of a few runs."""
-    spent = []
-    for _ in range(TRIES):
-        start = time.perf_counter()
-        subprocess.run([program, "check", str(source)], check=True, stdout=subprocess.DEVNULL)
-        spent.append(time.perf_counter() - start)
-    return min(spent)
+    """The mean time of as many runs as take a tenth of a second together, three at least."""
+    total, runs = 0.0, 0
+    while total < LEAST_TIME or runs < LEAST_RUNS:
+        total += spent_by([program, "check", str(source)])
+        runs += 1
+    return total / runs
 
 
 def main():
