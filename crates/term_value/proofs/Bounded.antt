@@ -6,7 +6,7 @@ use Rattle.term_value.specs.Result.{Stop, Raise, Limit, truth}
 use Rattle.term_value.specs.Tree.{Tree, Module}
 use Rattle.term_value.specs.Step.{SendTo, Show, Start, Step, Ready, Goes, Falls, Asks, Looks, step}
 use Rattle.term_value.specs.Local.{Course, At, Fell, Local, world, Seen, Takes, NoMessage, SeenLimit, looked, charged, Next, On, Asking, ForMore, Done, Raised, is_normal, raised_where, ended, if_left, of_seen, of_step, of_course, next_of, size_of_course, Outcome, Wants, WantsMore, EndsDone, EndsRaised, Unfinished, on_if, onward, walk, outcome_in, ask_of}
-use Rattle.term_value.specs.Machine.{End, Waiting, Process, Running, Over, Left, Machine, process_bound, process_at, with_process, ask_of_process, ask_at, unseen_at, answered, went_on, asked_at, received_by, saw, born, at_limit, end_of, left_by, apply, SendsTo, Shows, Starts, Waits, Ends, Runs, IsOver, Legal, IsLegal, start_of, first_of, atom_from}
+use Rattle.term_value.specs.Machine.{End, Waiting, Process, Running, Over, Left, Machine, process_bound, process_at, with_process, ask_of_process, ask_at, unseen_at, answered, went_on, asked_at, received_by, received, saw, born, at_limit, end_of, left_by, apply, SendsTo, Shows, Starts, Waits, Ends, Runs, IsOver, Legal, IsLegal, start_of, first_of, atom_from}
 use Rattle.term_value.specs.Laws.{LegalIsShort}
 use Rattle.term_value.specs.declared.entry.Entry.{Entry}
 use Rattle.term_value.specs.declared.entry.Entry.TheVariants.{Sent, Saw, Shown, Started, Full, Ended, Stopped, Gone}
@@ -210,11 +210,21 @@ room m = (process_bound - length m.processes) * (m.reductions + 3)
 abbrev all_of : Machine → ℕ
 all_of m = total m.processes + room m
 
+set_count : (m : Machine) (pid : ℕ) (q : Process) → length (with_process m pid q).processes ≡ length m.processes
+set_count m zero q = refl
+set_count m (suc before) q = length-set m.processes before q
+
 set_room : (m : Machine) (pid : ℕ) (q : Process) → room (with_process m pid q) ≡ room m
-set_room m pid q = ap (λ n. (process_bound - n) * (m.reductions + 3)) (length-set m.processes (pid - 1) q)
+set_room m zero q = refl
+set_room m (suc before) q = ap (λ n. (process_bound - n) * (m.reductions + 3)) (length-set m.processes before q)
+
+received_by_all : (m : Machine) (pid : ℕ) (v : Value) → total (received m pid v).processes ≡ total m.processes
+received_by_all m zero v = refl
+received_by_all m (suc before) v = received_total m.processes before v
 
 falls : (m : Machine) (pid : ℕ) (q : Process) → Falls_to (process_at m pid) q → all_of (with_process m pid q) + 1 ≤ all_of m
-falls m pid q f = omega (arith, f.2, set_total m.processes (pid - 1) f.0 q f.1, set_room m pid q)
+falls m zero q f = cc f.1
+falls m (suc before) q f = omega (arith, f.2, set_total m.processes before f.0 q f.1, set_room m (suc before) q)
 
 sends_wants : (to : ℕ) (o : Option Outcome) → SendsTo to o → Wanting o
 sends_wants to (Some (Wants (SendTo receiver v) next)) h = tt
@@ -245,13 +255,15 @@ entry_falls : (m : Machine) (e : Entry) → Legal m e → all_of (apply m e) + 1
 entry_falls m (Sent from to) h =
     let v = asked_at m from in
     let n = went_on m from v in
-    omega (arith, answer_falls m from v (sends_wants to (ask_at m from) h), received_total n.processes (to - 1) v, set_room n to (received_by v (process_at n to)))
+    omega (arith, answer_falls m from v (sends_wants to (ask_at m from) h), received_by_all n to v, set_room n to (received_by v (process_at n to)))
 entry_falls m (Saw pid n) h = falls m pid (saw (ask_at m pid) (unseen_at m pid)) (saw_falls m.code (process_at m pid) (unseen_at m pid) h.0)
 entry_falls m (Shown pid) h = answer_falls m pid (truth true) (shows_wants (ask_at m pid) h)
-entry_falls m (Started pid child) h =
+entry_falls m (Started zero child) h = absurd h.0
+entry_falls m (Started (suc before) child) h =
+    let pid = suc before in
     let n = went_on m pid (VPid child) in
     let q = born m.code m.reductions child (ask_at m pid) in
-    let set : length n.processes ≡ length m.processes = length-set m.processes (pid - 1) (answered (ask_at m pid) (VPid child) (unseen_at m pid)) in
+    let set : length n.processes ≡ length m.processes = set_count m pid (answered (ask_at m pid) (VPid child) (unseen_at m pid)) in
     let more : length (n.processes ++ q ∷ []) ≡ length n.processes + 1 = length-append n.processes (q ∷ []) in
     let within : length (n.processes ++ q ∷ []) ≤ process_bound = omega (arith, more, set, h.1, h.2) in
     omega (arith, answer_falls m pid (VPid child) (starts_wants (ask_at m pid) h.0), total-push n.processes q, first_small m.code m.reductions child (ask_at m pid) h.0, one_more_room (length (n.processes ++ q ∷ [])) (length n.processes) (m.reductions + 3) more within)

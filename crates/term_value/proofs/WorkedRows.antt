@@ -3,6 +3,7 @@ use Rattle.std.proofs.Common.{refl}
 use Rattle.std.specs.Fmt.{digits}
 use Rattle.bits_value.specs.Bits.{bit_of}
 use Rattle.bits_value.specs.Number.{big_bits, little_bits, reordered}
+use Rattle.term_value.specs.WorkedReads.{StringSpreads}
 use Rattle.term_value.specs.WorkedRuns.{StoppedReport, OutReport, DisplayReport, DisplayOrder, BadGenerator, BadFilter, GeneratorsNest, RowNoBitstring, AndAlsoRaises, OrElseGives, BadMatch, NoCase, NoIf, ImproperList, GuardHides, GuardLimits, GuardFails, ActCosts, NoReceiver, GeneratorSkips, RowsCost, LastRowIsFree, GeneratorDrops}
 use Rattle.term_value.specs.Worked.{KeepsLowestBits, LittleBuilds, LittleMatches, PrefixMatches, PrefixTooLong, NegativeSizeFails, NegativeSizeRaises, TooLongBuild, WrongKindFirst, ShortPart, WideSkips, WideLimits, WideSigned, PairBuilds, PairMatches, OverlongFails, EuroMatches, RepeatCompares, LiteralLimit}
 
@@ -158,3 +159,7 @@ display_report = refl
 pub display_order : DisplayOrder
 unfolding digits
 display_order = refl
+
+pub string_spreads : StringSpreads
+unfolding big_bits bit_of little_bits reordered
+string_spreads = refl

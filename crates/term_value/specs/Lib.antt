@@ -31,4 +31,5 @@ pub mod Typing
 pub mod Texts
 pub mod Value
 pub mod Worked
+pub mod WorkedReads
 pub mod WorkedRuns

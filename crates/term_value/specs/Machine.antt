@@ -1,7 +1,7 @@
 -- The copying machine: bitstrings are lists of bits, and what is sent is copied. Its orders, legal and complete (the acts are
 -- the Erlang Reference Manual's, "Processes"; that each is one entry of an order, and the bound on processes, are this
 -- project's own).
-use Rattle.std.specs.Prelude.{◌≡◌, ℕ, ◌+◌, ◌-◌, ◌≤◌, Bool, true, false, ◌&&◌, List, [], ◌∷◌, ◌++◌, codes, Option, Some, None, cond, nat_eq, slice_get, slice_set, length}
+use Rattle.std.specs.Prelude.{◌≡◌, ℕ, zero, suc, ◌+◌, ◌≤◌, Bool, true, false, ◌&&◌, List, [], ◌∷◌, ◌++◌, codes, Option, Some, None, cond, nat_eq, slice_get, slice_set, length}
 use Rattle.std.specs.Ordering.{is_eq, nat_cmp}
 use Rattle.std.specs.Cmp.Lexicographic.{slice_cmp}
 use Rattle.term_value.specs.Value.{Value, VAtom, VPid, Values, none, more, count}
@@ -38,11 +38,14 @@ pub record Machine : Type 0 where
 abbrev pub process_bound : ℕ
 process_bound = 1_024
 
+-- pids count from 1
 abbrev pub process_at : Machine → ℕ → Option Process
-process_at m pid = slice_get m.processes (pid - 1)
+process_at m zero = None
+process_at m (suc before) = slice_get m.processes before
 
 abbrev pub with_process : Machine → ℕ → Process → Machine
-with_process m pid process = record m { processes = slice_set m.processes (pid - 1) process }
+with_process m zero process = m
+with_process m (suc before) process = record m { processes = slice_set m.processes before process }
 
 abbrev pub ask_of_process : Module → Option Process → Option Outcome
 ask_of_process code (Some (Running local unseen)) = Some (ask_of code local)
@@ -126,6 +129,7 @@ abbrev pub born : Module → ℕ → ℕ → Option Outcome → Process
 born code reductions pid (Some (Wants (Start module_name function vs) next)) = Running (first_of code reductions pid module_name function vs) []
 born code reductions pid _ = Left Normal
 
+-- whose next step is its end, so its reductions and its messages play no part any more
 abbrev pub at_limit : Option Process → Process
 at_limit (Some (Running local unseen)) = Running (record local { course = Fell Limit }) unseen
 at_limit _ = Left Normal

@@ -1,6 +1,6 @@
 -- How the expressions, patterns and guards of a checked module are read into trees (Erlang Reference Manual, "Expressions",
 -- "Patterns", "Bit Syntax Expressions", "Comprehensions"). Each layer is read with what its parts came to in their places.
-use Rattle.std.specs.Prelude.{ℕ, pos, neg_ℤ, true, false, List, [], ◌∷◌, map, length, reverse, Option, Some, None}
+use Rattle.std.specs.Prelude.{ℕ, pos, neg_ℤ, true, false, List, [], ◌∷◌, ◌++◌, map, length, reverse, Option, Some, None}
 use Rattle.erl_syntax.specs.declared.span.Span.{Span}
 use Rattle.erl_syntax.specs.declared.segment.Spec.{Spec}
 use Rattle.erl_syntax.specs.declared.expr.Op.{Op}
@@ -87,9 +87,10 @@ abbrev pub segments : List Piece → Segments
 segments [] = no_segment
 segments (q ∷ ps) = segment q.typed q.value.target (before_size q.size end) (segments ps)
 
-abbrev pub listed : List Read → Trees → Tree
-listed [] items = All (Table MakeList) items
-listed (tail ∷ tails) items = All (Table MakeListOn) items
+-- a list of items, or of items on a tail, which is evaluated last
+abbrev pub listed : List Read → List Read → Tree
+listed items [] = All (Table MakeList) (trees items)
+listed items (tail ∷ tails) = All (Table MakeListOn) (trees (items ++ tail ∷ []))
 
 -- a sign before a number in a segment of a pattern
 abbrev pub signed_target : Prefix → Target → Target
@@ -165,13 +166,14 @@ abbrev pub pattern_list : List Pattern → List Pattern → Pattern
 pattern_list items [] = PList (patterns items)
 pattern_list items (tail ∷ tails) = PListOn (patterns items) tail
 
-abbrev pub atom_name : Reading → Tree → List ℕ
-atom_name r (Val (VAtom a)) = r.names a
+-- the characters of an atom that is written before the colon of a call; `?MODULE` is the module itself, whatever its name is
+abbrev pub atom_name : Reading → Target → List ℕ
+atom_name r (Equal (VAtom a)) = r.names a
 atom_name r _ = []
 
 abbrev pub module_of : Reading → List Read → Option (List ℕ)
 module_of r [] = None
-module_of r (m ∷ reads) = Some (atom_name r m.tree)
+module_of r (m ∷ reads) = Some (atom_name r m.target)
 
 abbrev pub call : Reading → List Read → ℕ → List Read → Tree
 call r module_read name args = All (called (module_of r module_read) (r.names name) (length args) (r.place name (length args))) (trees args)

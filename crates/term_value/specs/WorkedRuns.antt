@@ -261,3 +261,7 @@ DisplayReport = report displaying its_order ≡ codes "{1,[ok,2]}\n"
 
 abbrev pub DisplayOrder : Type 0
 DisplayOrder = order_text its_order ≡ codes "shown 1\nended 1\ngone 1 0 0 0\n"
+
+-- pids count from 1
+abbrev pub NoPidZero : Type 0
+NoPidZero = IsLegal displaying (e.Shown 0 ∷ []) → ⊥

@@ -10,6 +10,7 @@ mod look;
 mod measure;
 mod names;
 mod outcome;
+mod reads;
 mod rows;
 mod runs;
 mod showing;

@@ -1,5 +1,5 @@
 //! Small programs, and what a process asks for or a machine does, as the definitions compute it.
-ghost use Rattle.term_value.specs.WorkedRuns.{StoppedReport, OutReport, DisplayReport, DisplayOrder, GeneratorSkips, RowsCost, LastRowIsFree, GeneratorDrops, GeneratorsNest, BadGenerator, BadFilter, RowNoBitstring, AndAlsoRaises, OrElseGives, BadMatch, NoCase, NoIf, ImproperList, GuardHides, GuardLimits, GuardFails, ActCosts, NoReceiver, SelectiveReceive, SecondFirst, FirstFirst, SeenTooEarly, Incomplete, RunsOut, TwoStopped, NotStopped, ChildUndef};
+ghost use Rattle.term_value.specs.WorkedRuns.{StoppedReport, OutReport, DisplayReport, DisplayOrder, GeneratorSkips, RowsCost, LastRowIsFree, GeneratorDrops, GeneratorsNest, BadGenerator, BadFilter, RowNoBitstring, AndAlsoRaises, OrElseGives, BadMatch, NoCase, NoIf, ImproperList, GuardHides, GuardLimits, GuardFails, ActCosts, NoReceiver, SelectiveReceive, SecondFirst, FirstFirst, SeenTooEarly, Incomplete, RunsOut, TwoStopped, NotStopped, ChildUndef, NoPidZero};
 
 #[tactic(auto, using(crate::proofs::WorkedRows::generator_skips))]
 fn generator_skips()
@@ -150,4 +150,8 @@ fn display_report()
 #[tactic(auto, using(crate::proofs::WorkedRows::display_order))]
 fn display_order()
     ensures { DisplayOrder }
+{}
+
+fn no_pid_zero()
+    ensures { NoPidZero }
 {}
