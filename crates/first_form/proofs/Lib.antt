@@ -9,6 +9,11 @@ pub mod Numbered
 pub mod Once
 pub mod Places
 pub mod Steps
+pub mod TokenAtoms
+pub mod TokenPieces
+pub mod TokenPlaces
+pub mod TokenStrings
+pub mod TokenWords
 pub mod Told
 pub mod TreesRead
 pub mod Walked
