@@ -1,6 +1,13 @@
 pub mod Around
 pub mod Comparing
 pub mod Fitting
+pub mod FormFields
+pub mod FormItems
+pub mod FormNames
+pub mod FormParts
+pub mod FormSpells
+pub mod FormTexts
+pub mod FormTrees
 pub mod Joining
 pub mod Lengths
 pub mod ModuleRead
