@@ -27,6 +27,7 @@ pub record Begins (table : List (List ℕ)) (more : List (List ℕ)) (ws : List 
   pub spells : (gs : List Goal) → Spells strict gs rest → Spells strict (wanted ++ gs) ws
   pub within : (places : List Span) → StandIn places rest → StandIn (here ++ places) ws
 
+-- a segment of a bit pattern, and the place of its variable
 pub record FieldBegins (table : List (List ℕ)) (c : Context) (field : Field) (more : List (List ℕ)) (ws : List Word) : Type 0 where
   pub at : Span
   pub sg : Segment
@@ -71,6 +72,7 @@ field_begins table c field more ws fits (and_word _ a _ _ ha (and_word _ b _ _ h
 abbrev pub more_field_words : List Field → List (List ℕ) → List (List ℕ)
 more_field_words fields more = flat_map (λ (next : List (List ℕ)). codes "," ∷ next) (map field_words fields) ++ codes ">>" ∷ more
 
+-- the segments behind the first one, with their height
 pub record FieldsBegin (table : List (List ℕ)) (c : Context) (fields : List Field) (more : List (List ℕ)) (ws : List Word) : Type 0 where
   pub here : List Span
   pub sgs : List Segment
@@ -115,6 +117,7 @@ more_fields table c (field ∷ fields) more ws fit (and_word _ t _ rest h after)
 abbrev pub in_item : Context
 in_item = in_mode InSize (whole InBody 0)
 
+-- a bit pattern, and the places of its variables
 pub record PatternBegins (table : List (List ℕ)) (fields : List Field) (more : List (List ℕ)) (ws : List Word) : Type 0 where
   pub at : Span
   pub here : List Span

@@ -38,6 +38,7 @@ mark_begins table kind bs more ws f (and_word _ w _ rest h after) = record {
 abbrev pub IsLetter : ℕ → Type 0
 IsLetter letter = (65 ≤ letter) × (letter ≤ 90)
 
+-- An item, and the places of the variables that it binds. Its tree is that of a module with the names among its texts.
 pub record ItemBegins (table : List (List ℕ)) (one : Item) (more : List (List ℕ)) (ws : List Word) : Type 0 where
   pub here : List Span
   pub i : syntax_item.Item
@@ -47,6 +48,7 @@ pub record ItemBegins (table : List (List ℕ)) (one : Item) (more : List (List 
 
 -- ---- A match
 
+-- the texts of a match are those of its pattern, `=` and those of its expression
 regrouped : (a b c d : List (List ℕ)) → ((a ++ b) ++ c) ++ d ≡ a ++ (b ++ (c ++ d))
 regrouped a b c d = simp append_assoc
 
@@ -132,6 +134,7 @@ bound_letters (item.Display letter) known is = All-nil IsLetter
 abbrev pub more_item_words : List Item → List (List ℕ) → List (List ℕ)
 more_item_words items more = flat_map (λ (next : List (List ℕ)). codes "," ∷ next) (map item_words items) ++ more
 
+-- the items behind the first one, with their height
 pub record ItemsBegin (table : List (List ℕ)) (items : List Item) (more : List (List ℕ)) (ws : List Word) : Type 0 where
   pub here : List Span
   pub is : List syntax_item.Item

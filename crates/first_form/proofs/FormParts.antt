@@ -84,6 +84,7 @@ part_begins table c value (Some n) more ws small size (and_word _ t _ _ h (and_w
 abbrev pub more_part_words : List Part → List (List ℕ) → List (List ℕ)
 more_part_words parts more = flat_map (λ (next : List (List ℕ)). codes "," ∷ next) (map part_words parts) ++ codes ">>" ∷ more
 
+-- the segments behind the first one, with their height
 pub record PartsBegin (table : List (List ℕ)) (c : Context) (parts : List Part) (more : List (List ℕ)) (ws : List Word) : Type 0 where
   pub sgs : List Segment
   pub height : ℕ
@@ -144,6 +145,7 @@ operand_alone c at e d gs ws rest f s =
 abbrev pub in_body : Context
 in_body = whole InBody 0
 
+-- a bit expression
 pub record BitsBegin (table : List (List ℕ)) (parts : List Part) (more : List (List ℕ)) (ws : List Word) : Type 0 where
   pub at : Span
   pub sgs : List Segment

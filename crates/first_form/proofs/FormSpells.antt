@@ -34,6 +34,7 @@ module_words named more = codes "-" ∷ codes "module" ∷ codes "(" ∷ named �
 abbrev export_words : List (List ℕ) → List (List ℕ)
 export_words more = codes "-" ∷ codes "export" ∷ codes "(" ∷ codes "[" ∷ codes "main" ∷ codes "/" ∷ codes "0" ∷ codes "]" ∷ codes ")" ∷ codes "." ∷ more
 
+-- the `-module` form, in front of others
 record HeadBegins (table : List (List ℕ)) (chars : List ℕ) (more : List (List ℕ)) (ws : List Word) : Type 0 where
   head : Head
   named : head.name ≡ number_in table chars
@@ -57,6 +58,7 @@ head_begins table chars more ws is (and_word _ a _ _ ha (and_word _ b _ _ hb (an
       within = λ places s. skips a places _ (skips b places _ (skips o places _ (skips n places _ (skips q places _ (skips z places rest s)))));
     }
 
+-- the `-export` form, in front of the function
 record ExportBegins (table : List (List ℕ)) (more : List (List ℕ)) (ws : List Word) : Type 0 where
   export : Name
   named : export.name ≡ number_in table (codes "main")
@@ -66,6 +68,7 @@ record ExportBegins (table : List (List ℕ)) (more : List (List ℕ)) (ws : Lis
   spells : (hs : List Head) (fs : List Function) (gs : List Goal) → Spells strict (Of (Forms hs [] fs) ∷ gs) rest → Spells strict (Of (Forms hs (export ∷ []) fs) ∷ gs) ws
   within : (places : List Span) → StandIn places rest → StandIn places ws
 
+-- `0` in decimal
 zero_text : decimal 0 ≡ codes "0"
 unfolding digits
 zero_text = refl
@@ -95,6 +98,7 @@ export_begins table more ws (and_word _ a _ _ ha (and_word _ b _ _ hb (and_word 
 abbrev function_words : List Item → List (List ℕ)
 function_words items = codes "main" ∷ codes "(" ∷ codes ")" ∷ codes "->" ∷ separated (codes ",") (map item_words items) ++ codes "." ∷ []
 
+-- the function, up to the end of the words
 record FunctionBegins (table : List (List ℕ)) (items : List Item) (ws : List Word) : Type 0 where
   clause : Clause
   named : clause.name ≡ number_in table (codes "main")
@@ -105,6 +109,7 @@ record FunctionBegins (table : List (List ℕ)) (items : List Item) (ws : List W
   spells : (f : Function) → f ≡ record { name = clause.name; arity = length clause.patterns; clauses = clause ∷ [] } → Spells strict (Of (Forms [] [] (f ∷ [])) ∷ []) ws
   within : StandIn here ws
 
+-- nothing stands behind the last full stop
 -- nothing stands behind the last full stop
 stop_begins : (table : List (List ℕ)) (ws : List Word) → AreWordsOf table (codes "." ∷ []) ws → Spells strict (Of (MoreClauses []) ∷ Of (Forms [] [] []) ∷ []) ws
 stop_begins table ws (and_word _ z _ _ hz no_word) = expands _ end_clauses (takes z (full_stop_word table z hz) (expands _ no_forms ends))
@@ -143,6 +148,7 @@ function_begins table (one ∷ items) ws some fit (and_word _ n _ _ hn (and_word
 
 -- ---- Places rise
 
+-- what stands before all words stands before these places
 after_all : (a : Span) (places : List Span) (ws : List Word) → StandIn places ws → All (λ (w : Word). IsBefore a w.at) ws → All (λ (b : Span). IsBefore a b) places
 after_all a _ _ (none ws) h = All-nil (λ (b : Span). IsBefore a b)
 after_all a _ _ (skips w places ws s) h = after_all a places ws s (All-tail (λ (w : Word). IsBefore a w.at) w ws h)
@@ -156,6 +162,7 @@ places_rise _ _ (stands w places ws s) h = (after_all w.at places ws s h.0, plac
 
 -- ---- The module
 
+-- The words spell these forms. A module of them has the tree, where it has the names and the words rise.
 pub record ModuleOf (table : List (List ℕ)) (straight : Straight) (ws : List Word) : Type 0 where
   pub heads : List Head
   pub exports : List Name
