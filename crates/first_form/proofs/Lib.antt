@@ -1,6 +1,13 @@
 pub mod Around
 pub mod Comparing
 pub mod Fitting
+pub mod FormFields
+pub mod FormItems
+pub mod FormNames
+pub mod FormParts
+pub mod FormSpells
+pub mod FormTexts
+pub mod FormTrees
 pub mod Joining
 pub mod Lengths
 pub mod ModuleRead
@@ -9,6 +16,11 @@ pub mod Numbered
 pub mod Once
 pub mod Places
 pub mod Steps
+pub mod TokenAtoms
+pub mod TokenPieces
+pub mod TokenPlaces
+pub mod TokenStrings
+pub mod TokenWords
 pub mod Told
 pub mod TreesRead
 pub mod Walked

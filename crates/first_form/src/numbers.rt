@@ -9,6 +9,8 @@ ghost use Rattle.first_form.specs.Form.{IsStraight};
 ghost use Rattle.first_form.specs.TreeOf.{IsForm, IsTreeOf};
 ghost use Rattle.first_form.specs.declared.form.Straight.{Straight};
 
+use erl_tokens::longest_token;
+
 /// The tree of a module of today's form is read as that module, where its variables have their numbers at their places.
 pub fn trees_are_read()
     ensures { (number_at : Span → ℕ) (m : Module) (straight : Straight) → IsTreeOf m straight → IsStraight straight →
@@ -23,4 +25,6 @@ pub fn trees_have_numbers()
 /// A text whose tokens are the words of a module of today's form spells a module with its tree.
 pub fn forms_have_trees()
     ensures { (text : List ℕ) (straight : Straight) → length text ≤ longest_text → IsForm text straight → (m : Module) × Reads text m × IsTreeOf m straight }
-{}
+{
+    longest_token();
+}
