@@ -7,10 +7,10 @@ use Rattle.bits_top.specs.Command.{Spells, SpellsCheck, SpellsRun}
 use Rattle.bits_top.specs.declared.command.Command.{Command}
 use Rattle.bits_top.specs.declared.command.Command.TheVariants as made
 use Rattle.std.proofs.Math.Logic.{∥∥₁_map}
-use Rattle.erl_syntax.specs.Checking.{AreNumbered}
+use Rattle.erl_syntax.specs.Checking.{AreNumbered, HaveNumbers}
+use Rattle.erl_syntax.specs.Reading.{Reads}
 use Rattle.erl_syntax.specs.declared.checking.VarUse.{VarUse}
 use Rattle.first_form.specs.TreeOf.{IsForm, IsTreeOf}
-use Rattle.first_form.specs.Numbers.{HaveNumbers}
 use Rattle.first_form.proofs.Numbered.{have_numbers}
 use Rattle.erl_syntax.specs.declared.module.Module.{Module}
 use Rattle.module_accept.specs.Accepting.{Accepts, IsDue}
@@ -36,19 +36,19 @@ refusal_answers OrderFault reductions text line source report order read same h 
 refusal_answers NoMemory reductions text line source report order read same h = tt
 refusal_answers BadOrder reductions text line source report order read same h = h
 
-pub accepted_answers : (status : Status) (reductions : ℕ) (text : List ℕ) (tree : Module) (source report order : Port) → (read : IsAccepted source text tree) → IsTable tree.atoms →
+pub accepted_answers : (status : Status) (reductions : ℕ) (text : List ℕ) (tree : Module) (source report order : Port) → (read : IsAccepted source text tree) → IsTreeOf tree read.straight → IsTable tree.atoms →
     AnswersAccepted reductions read.straight status report order → AnswersRun reductions status source report order
-accepted_answers Done reductions text tree source report order read table h =
-    record { text = text; tree = tree; read = read; order_text = h.order_text; report_text = h.report_text; run = h.run tree read.form.tree table; ordered = h.ordered; reported = h.reported }
-accepted_answers OrderFault reductions text tree source report order read table h =
-    record { text = text; tree = tree; read = read; order_text = h.order_text; report_text = h.report_text; run = h.run tree read.form.tree table; fault = h.fault; ordered = h.ordered; reported = h.reported }
-accepted_answers ReportFault reductions text tree source report order read table h =
-    inl (record { text = text; tree = tree; read = read; order_text = h.order_text; report_text = h.report_text; run = h.run tree read.form.tree table; ordered = h.ordered; fault = h.fault; reported = h.reported })
-accepted_answers Refused reductions text tree source report order read table h = absurd h
-accepted_answers Usage reductions text tree source report order read table h = h
-accepted_answers ReadFault reductions text tree source report order read table h = absurd h
-accepted_answers NoMemory reductions text tree source report order read table h = tt
-accepted_answers BadOrder reductions text tree source report order read table h = h
+accepted_answers Done reductions text tree source report order read of table h =
+    record { text = text; tree = tree; read = read; order_text = h.order_text; report_text = h.report_text; run = h.run tree of table; ordered = h.ordered; reported = h.reported }
+accepted_answers OrderFault reductions text tree source report order read of table h =
+    record { text = text; tree = tree; read = read; order_text = h.order_text; report_text = h.report_text; run = h.run tree of table; fault = h.fault; ordered = h.ordered; reported = h.reported }
+accepted_answers ReportFault reductions text tree source report order read of table h =
+    inl (record { text = text; tree = tree; read = read; order_text = h.order_text; report_text = h.report_text; run = h.run tree of table; ordered = h.ordered; fault = h.fault; reported = h.reported })
+accepted_answers Refused reductions text tree source report order read of table h = absurd h
+accepted_answers Usage reductions text tree source report order read of table h = h
+accepted_answers ReadFault reductions text tree source report order read of table h = absurd h
+accepted_answers NoMemory reductions text tree source report order read of table h = tt
+accepted_answers BadOrder reductions text tree source report order read of table h = h
 
 -- what was read to the end is all that the source held
 pub held_whole : (before after : Option (List ℕ)) (bytes : List ℕ) → Consumes before after bytes → IsAtEnd after → IfSome before (λ held. held ≡ bytes)
@@ -125,30 +125,29 @@ refused_is source held line text told h = elim h [
 ]
 
 -- what was found of a text and a module holds of the same two
-pub form_of : (seen bytes : List ℕ) (shown tree : Module) (straight : Straight) → seen ≡ bytes → shown ≡ tree → IsForm seen shown straight → IsForm bytes tree straight
-form_of seen bytes shown tree straight s t form =
-    let P : List ℕ → Type 0 = λ v. IsForm v shown straight in
-    let Q : Module → Type 0 = λ m. IsForm bytes m straight in
-    subst Q t (subst P s form)
+pub form_of : (seen bytes : List ℕ) (straight : Straight) → seen ≡ bytes → IsForm seen straight → IsForm bytes straight
+form_of seen bytes straight s form = let P : List ℕ → Type 0 = λ v. IsForm v straight in subst P s form
 
-pub only_of : (seen bytes : List ℕ) (tree : Module) → seen ≡ bytes → ((other : Module) → Accepts seen other → other ≡ tree) → (other : Module) → Accepts bytes other → other ≡ tree
-only_of seen bytes tree s only = let P : List ℕ → Type 0 = λ v. (other : Module) → Accepts v other → other ≡ tree in subst P s only
+pub only_of : (seen bytes : List ℕ) (tree : Module) → seen ≡ bytes → ((other : Module) → Reads seen other → other ≡ tree) → (other : Module) → Reads bytes other → other ≡ tree
+only_of seen bytes tree s only = let P : List ℕ → Type 0 = λ v. (other : Module) → Reads v other → other ≡ tree in subst P s only
 
 -- a checked module of the form has numbers for its variables
 pub numbered_tree : (tree : Module) (straight : Straight) (uses : List VarUse) → IsTreeOf tree straight → ∥ AreNumbered tree.functions uses ∥₁ → ∥ HaveNumbers tree ∥₁
 numbered_tree tree straight uses of numbered = ∥∥₁_map numbered (λ n. have_numbers tree straight uses of n)
 
--- a text has one accepted module, so none of its modules has the form where this one hasn't
-pub none_built : (text : List ℕ) (tree : Module) → ((other : Module) → Accepts text other → other ≡ tree) → ((straight : Straight) → IsForm text tree straight → ⊥) →
-    (m : Module) (straight : Straight) → Accepts text m → IsForm text m straight → ⊥
-none_built text tree only none m straight a form = none straight (let P : Module → Type 0 = λ t. IsForm text t straight in subst P (only m a) form)
+-- a text of the form spells one module, whose tree is that of the form: so the text hasn't the form where its module hasn't
+pub none_built : (text : List ℕ) (tree : Module) → ((other : Module) → Reads text other → other ≡ tree) → ((straight : Straight) → IsForm text straight → (m : Module) × Reads text m × IsTreeOf m straight) →
+    ((straight : Straight) → IsForm text straight → IsTreeOf tree straight → ⊥) → (straight : Straight) → IsForm text straight → ⊥
+none_built text tree only spelled none straight form =
+    let m = spelled straight form in
+    none straight form (subst (λ (t : Module). IsTreeOf t straight) (only m.0 m.1) m.2)
 
-not_both : (text : List ℕ) (m : Module) (straight : Straight) → length text ≤ text_limit → Accepts text m → IsForm text m straight → CantRun text → ⊥
+not_both : (text : List ℕ) (m : Module) (straight : Straight) → length text ≤ text_limit → Accepts text m → IsForm text straight → CantRun text → ⊥
 not_both text m straight short a form h = elim h [
   | inl long ↦ omega (arith, long, short)
   | inr w ↦ elim w [
     | inl none ↦ none m a
-    | inr none ↦ none m straight a form
+    | inr none ↦ none straight form
   ]
 ]
 

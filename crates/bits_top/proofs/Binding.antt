@@ -9,8 +9,8 @@ use Rattle.std.proofs.Math.Seq.{drop-cons}
 use Rattle.bits_value.proofs.BitLists.{natural-lt}
 use Rattle.bits_value.specs.Number.{natural, bounded, spell}
 use Rattle.bits_value.specs.declared.Endian.TheVariants.{Big}
-use Rattle.first_form.specs.Form.{part_size, parts_bits}
-use Rattle.bits_top.specs.Runs.{built, decoded, fields_bits}
+use Rattle.first_form.specs.Form.{fields_bits, part_size, parts_bits}
+use Rattle.bits_top.specs.Runs.{parts_as_bits, decoded}
 use Rattle.first_form.specs.declared.form.Field.{Field}
 use Rattle.first_form.specs.declared.form.Part.{Part}
 use Rattle.bits_top.specs.declared.matching.Binding.{Binding}
@@ -34,7 +34,7 @@ written_front old new piece at n e l h =
     let f : take (at + n) ((take at old ++ piece) ++ drop (at + n) old) ≡ take at old ++ piece = grind (arith, common_steps) in
     rw (e, ← append_assoc (take at old) piece (drop (at + n) old)) f
 
-pub built_next : (parts : List Part) (part : Part) → built (parts ++ part ∷ []) ≡ built parts ++ spell (part_size part.bits) (pos part.value) Big
+pub built_next : (parts : List Part) (part : Part) → parts_as_bits (parts ++ part ∷ []) ≡ parts_as_bits parts ++ spell (part_size part.bits) (pos part.value) Big
 built_next parts part = grind (arith, common_steps)
 
 pub bits_next : (parts : List Part) (part : Part) → parts_bits (parts ++ part ∷ []) ≡ parts_bits parts + part_size part.bits

@@ -5,7 +5,7 @@ use Rattle.std.proofs.lemmas.Bool.Decides.{nat_tests}
 use Rattle.std.proofs.lemmas.Grind.{common_steps}
 use Rattle.std.proofs.lemmas.List.{drop_all}
 use Rattle.first_form.specs.Form.{AreItems}
-use Rattle.bits_top.specs.Runs.{built, decoded, known, bound_value, shown_of, ending_of, shown_entries, end_entries, Matches, Shows, Advances, Finishes, HasRun}
+use Rattle.bits_top.specs.Runs.{parts_as_bits, decoded, known, bound_value, shown_of, ending_of, shown_entries, end_entries, Matches, Shows, Advances, Finishes, HasRun}
 use Rattle.bits_top.proofs.Binding.{drop_next}
 use Rattle.first_form.specs.declared.form.Item.{Item}
 use Rattle.first_form.specs.declared.form.Item.TheVariants.{Match, Display}
@@ -49,7 +49,7 @@ stands_first s r left progress e l b es sh fits =
 stands_match : (s : Straight) (r : ℕ) (old new : Progress) (fields : List Field) (parts : List Part) (items : List Item) → Matches fields parts old new →
     Stands s r old (Match fields parts ∷ items) → Stands s r new items
 stands_match s r old new fields parts items m h =
-    let names : known new.bindings.items ≡ known old.bindings.items ++ map (λ field. field.variable) fields = ap known m.bindings ∙ known_more old.bindings.items fields (built parts) in
+    let names : known new.bindings.items ≡ known old.bindings.items ++ map (λ field. field.variable) fields = ap known m.bindings ∙ known_more old.bindings.items fields (parts_as_bits parts) in
     record {
       shown = rw (m.bindings, m.left, m.shown) h.shown;
       ending = rw (m.bindings, m.left) h.ending;

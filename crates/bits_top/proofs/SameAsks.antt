@@ -10,8 +10,8 @@ use Rattle.term_value.specs.PutIn.{value_in, put_in}
 use Rattle.term_value.specs.Read.{body}
 use Rattle.term_value.specs.Step.{Show}
 use Rattle.term_value.specs.Local.{Local, At, Outcome, Wants, EndsDone, EndsRaised}
-use Rattle.first_form.specs.Form.{IsMatch, bound_by}
-use Rattle.bits_top.specs.Runs.{bound_value, built, decoded, fields_bits, known}
+use Rattle.first_form.specs.Form.{IsMatch, bound_by, fields_bits}
+use Rattle.bits_top.specs.Runs.{bound_value, parts_as_bits, decoded, known}
 use Rattle.first_form.specs.Whole.{line}
 use Rattle.bits_top.proofs.Runs.{known_more, not_first}
 use Rattle.bits_top.proofs.SameMatch.{built_length, numbered, Apart, Within, head_of, behind, apart_front, differ}
@@ -33,7 +33,7 @@ due_display n bs items (suc left) = displaying n bs items left
 
 abbrev pub due : List Binding → List Item → ℕ → Due
 due bs [] left = finished
-due bs (Match fields ps ∷ items) left = due (bs ++ decoded fields (built ps)) items left
+due bs (Match fields ps ∷ items) left = due (bs ++ decoded fields (parts_as_bits ps)) items left
 due bs (Display x ∷ items) left = due_display (bound_value bs x) bs items left
 
 -- the variables that have values before these items, and those that get one in them, have different numbers
@@ -108,5 +108,5 @@ found number (b ∷ bs) x (j, h, e) apart =
     let later : Apart number (known bs) = λ c d there here same. apart c d (behind b.variable c (known bs) there) (behind b.variable d (known bs) here) same in
     rw test (found_by (nat_eq b.variable x) b.value (bound_value bs x) (value_in (numbered number bs) (number x)) (λ f. found number bs x (not_first b.variable x (known bs) (j, h, e) f) later))
 
-pub even_bits : (names : List ℕ) (fields : List Field) (ps : List Part) → IsMatch names fields ps → fields_bits fields ≡ length (built ps)
+pub even_bits : (names : List ℕ) (fields : List Field) (ps : List Part) → IsMatch names fields ps → fields_bits fields ≡ length (parts_as_bits ps)
 even_bits names fields ps h = h.even ∙ sym (built_length ps)

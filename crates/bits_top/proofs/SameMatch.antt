@@ -23,8 +23,8 @@ use Rattle.term_value.specs.Primitives.{prim, bounded_result}
 use Rattle.term_value.specs.Decode.{Cut, bound_to, bits_taken}
 use Rattle.term_value.specs.Match.{Yes, all_taken, whole, then_take}
 use Rattle.term_value.specs.Machine.{value_trees}
-use Rattle.first_form.specs.Form.{part_size, IsField, AreNew, parts_bits}
-use Rattle.bits_top.specs.Runs.{built, decoded, fields_bits}
+use Rattle.first_form.specs.Form.{part_size, IsField, AreNew, fields_bits, parts_bits}
+use Rattle.bits_top.specs.Runs.{parts_as_bits, decoded}
 use Rattle.first_form.specs.Whole.{field_pieces, size_read, part_piece}
 use Rattle.bits_top.proofs.Binding.{narrow_some}
 use Rattle.first_form.specs.declared.form.Field.{Field}
@@ -79,25 +79,25 @@ field_sum : (field : Field) (fields : List Field) → fields_bits (field ∷ fie
 field_sum field fields = sum_by-cons (λ f. f.bits) field fields
 
 pub built_parts : (ps : List Part) (before : List Bool) → length before + parts_bits ps ≤ bit_bound →
-    built_on (filled_with (types (map part_piece ps)) (part_values ps)) before ≡ Gives (VBits (before ++ built ps))
+    built_on (filled_with (types (map part_piece ps)) (part_values ps)) before ≡ Gives (VBits (before ++ parts_as_bits ps))
 built_parts [] before h = ap (λ bits. Gives (VBits bits)) (sym (append-nil before))
 built_parts (part ∷ ps) before h =
     let bits : List Bool = spell (part_size part.bits) (pos part.value) Big in
     one_built part.bits part.value (types (map part_piece ps)) (part_values ps) before (omega (arith, h, part_sum part ps))
     ∙ built_parts ps (before ++ bits) (omega (arith, h, part_sum part ps, length-append before bits, length-spell (part_size part.bits) (pos part.value) Big))
-    ∙ ap (λ b. Gives (VBits b)) (append_assoc before bits (built ps))
+    ∙ ap (λ b. Gives (VBits b)) (append_assoc before bits (parts_as_bits ps))
 
-pub built_length : (ps : List Part) → length (built ps) ≡ parts_bits ps
+pub built_length : (ps : List Part) → length (parts_as_bits ps) ≡ parts_bits ps
 built_length [] = refl
 built_length (part ∷ ps) =
     let bits : List Bool = spell (part_size part.bits) (pos part.value) Big in
     ap length (flat_map-cons (λ p. spell (part_size p.bits) (pos p.value) Big) part ps)
-    ∙ omega (arith, part_sum part ps, built_length ps, length-append bits (built ps), length-spell (part_size part.bits) (pos part.value) Big)
+    ∙ omega (arith, part_sum part ps, built_length ps, length-append bits (parts_as_bits ps), length-spell (part_size part.bits) (pos part.value) Big)
 
 pub prim_parts : (s : Setting) (ps : List Part) → parts_bits ps ≤ 134_217_728 →
-    prim s (Build (types (map part_piece ps))) (part_values ps) ≡ Gives (VBits (built ps))
+    prim s (Build (types (map part_piece ps))) (part_values ps) ≡ Gives (VBits (parts_as_bits ps))
 prim_parts s ps h =
-    let b : List Bool = built ps in
+    let b : List Bool = parts_as_bits ps in
     let t : nat_le (length b) bit_bound ≡ true = le_true _ _ (omega (arith, h, built_length ps)) in
     ap bounded_result (built_parts ps [] (omega (arith, h))) ∙ ap (λ x. value_or_limit x (VBits b)) t
 

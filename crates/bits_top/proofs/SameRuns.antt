@@ -21,7 +21,7 @@ use Rattle.term_value.specs.declared.entry.Entry.{Entry}
 use Rattle.term_value.specs.declared.entry.Entry.TheVariants.{Shown, Ended, Gone}
 use Rattle.first_form.specs.Form.{IsStraight, AreItems, IsShort}
 use Rattle.first_form.specs.Whole.{module_by, AreApart}
-use Rattle.bits_top.specs.Runs.{built, decoded, known, bound_value, shown_of, ending_of, shown_entries, end_entries, HasRun, ending_text, report_of}
+use Rattle.bits_top.specs.Runs.{parts_as_bits, decoded, known, bound_value, shown_of, ending_of, shown_entries, end_entries, HasRun, ending_text, report_of}
 use Rattle.bits_top.specs.Whole.{IsRunOf}
 use Rattle.bits_top.proofs.Runs.{known_more}
 use Rattle.bits_top.proofs.SameAsks.{due, standing, resting, whole_of, AllApart, apart_matched, apart_displayed}
@@ -83,8 +83,8 @@ leads : (number : ℕ → ℕ) (code : Module) (r : ℕ) (items : List Item) (bs
     Leads code r (Running k []) before (shown_entries (shown_of bs items left) ++ end_entries) (shown_of bs items left) (ending_of bs items left)
 leads number code r [] bs left k before fits short apart e = leads_out code r k before Normal e
 leads number code r (Match fields ps ∷ items) bs left k before fits short apart e =
-    leads number code r items (bs ++ decoded fields (built ps)) left k before (subst (λ names. AreItems names items) (sym (known_more bs fields (built ps))) fits.1)
-    (All-tail IsShort (Match fields ps) items short) (apart_matched number bs fields ps (built ps) items apart) e
+    leads number code r items (bs ++ decoded fields (parts_as_bits ps)) left k before (subst (λ names. AreItems names items) (sym (known_more bs fields (parts_as_bits ps))) fits.1)
+    (All-tail IsShort (Match fields ps) items short) (apart_matched number bs fields ps (parts_as_bits ps) items apart) e
 leads number code r (Display x ∷ items) bs zero k before fits short apart e = leads_out code r k before Exhausted e
 leads number code r (Display x ∷ items) bs (suc left) k before fits short apart e =
     let n : ℤ = bound_value bs x in

@@ -13,8 +13,8 @@ use Rattle.term_value.specs.Read.{body, types, segments}
 use Rattle.term_value.specs.Step.{World, setting, Ask, Show, Ready, Goes, Asks, step, steps}
 use Rattle.term_value.specs.Machine.{value_trees, first_of}
 use Rattle.term_value.specs.Local.{Local, Course, At, Fell, spent, Outcome, Wants, EndsDone, EndsRaised, Unfinished, walk, outcome_in, ask_of, size_of}
-use Rattle.first_form.specs.Form.{IsField, AreNew, AreItems, bound_by, IsShort, parts_bits}
-use Rattle.bits_top.specs.Runs.{bound_value, built, decoded, fields_bits, known}
+use Rattle.first_form.specs.Form.{IsField, AreNew, AreItems, bound_by, IsShort, fields_bits, parts_bits}
+use Rattle.bits_top.specs.Runs.{bound_value, parts_as_bits, decoded, known}
 use Rattle.first_form.specs.Whole.{field_pieces, part_piece, line, module_by, AreApart}
 use Rattle.bits_top.proofs.Runs.{known_more}
 use Rattle.bits_top.proofs.SamePut.{put_put}
@@ -70,7 +70,7 @@ steps_ready w (more v vs) = rw (steps_ready w vs) refl
 abbrev pub building : List Part → Tree
 building ps = Form (Table (Build (types (map part_piece ps)))) (value_trees (part_values ps))
 
-builds : (w : World) (ps : List Part) (rest : Shut) → parts_bits ps ≤ 134_217_728 → step w (First (building ps) rest) ≡ Goes 0 (First (Val (VBits (built ps))) rest)
+builds : (w : World) (ps : List Part) (rest : Shut) → parts_bits ps ≤ 134_217_728 → step w (First (building ps) rest) ≡ Goes 0 (First (Val (VBits (parts_as_bits ps))) rest)
 builds w ps rest h = rw (steps_ready w (part_values ps), prim_parts (setting w) ps h) refl
 
 -- the patterns of an item that matches
@@ -147,22 +147,22 @@ walk_items code less number (i ∷ items) bs left (suc zero) fits short apart h 
 walk_items code less number (item.Match fields ps ∷ []) bs left (suc (suc n)) fits short apart h =
     let here = apart_fields number bs fields ps [] apart in
     ap (λ t. walk code less (suc (suc n)) (standing left t)) (open_match_last number bs fields ps fits.0.new here)
-    ∙ walk_free code less (suc n) left (First (building ps) (Last (fields_pattern number fields))) (First (Val (VBits (built ps))) (Last (fields_pattern number fields)))
+    ∙ walk_free code less (suc n) left (First (building ps) (Last (fields_pattern number fields))) (First (Val (VBits (parts_as_bits ps))) (Last (fields_pattern number fields)))
     (builds (world_of code) ps (Last (fields_pattern number fields)) (All-head IsShort (item.Match fields ps) [] short))
-    ∙ walk_free code less n left (First (Val (VBits (built ps))) (Last (fields_pattern number fields))) (Val (VBits (built ps)))
-    (takes_last (world_of code) number (known bs) fields (built ps) fits.0.new here fits.0.fields_fit (even_bits (known bs) fields ps fits.0))
-    ∙ walk_done code less n left (VBits (built ps))
+    ∙ walk_free code less n left (First (Val (VBits (parts_as_bits ps))) (Last (fields_pattern number fields))) (Val (VBits (parts_as_bits ps)))
+    (takes_last (world_of code) number (known bs) fields (parts_as_bits ps) fits.0.new here fits.0.fields_fit (even_bits (known bs) fields ps fits.0))
+    ∙ walk_done code less n left (VBits (parts_as_bits ps))
 walk_items code less number (item.Match fields ps ∷ next ∷ items) bs left (suc (suc n)) fits short apart h =
     let here = apart_fields number bs fields ps (next ∷ items) apart in
     let rest : Tree = open_body number bs (next ∷ items) in
     ap (λ t. walk code less (suc (suc n)) (standing left t)) (open_match_then number bs fields ps next items fits.0.new here)
-    ∙ walk_free code less (suc n) left (First (building ps) (Then (fields_pattern number fields) rest)) (First (Val (VBits (built ps))) (Then (fields_pattern number fields) rest))
+    ∙ walk_free code less (suc n) left (First (building ps) (Then (fields_pattern number fields) rest)) (First (Val (VBits (parts_as_bits ps))) (Then (fields_pattern number fields) rest))
     (builds (world_of code) ps (Then (fields_pattern number fields) rest) (All-head IsShort (item.Match fields ps) (next ∷ items) short))
-    ∙ walk_free code less n left (First (Val (VBits (built ps))) (Then (fields_pattern number fields) rest)) (put_in (numbered number (decoded fields (built ps))) rest)
-    (takes_then (world_of code) number (known bs) fields (built ps) rest fits.0.new here fits.0.fields_fit (even_bits (known bs) fields ps fits.0))
-    ∙ ap (λ t. walk code less n (standing left t)) (open_after number bs fields (built ps) (next ∷ items))
-    ∙ walk_items code less number (next ∷ items) (bs ++ decoded fields (built ps)) left n (subst (λ names. AreItems names (next ∷ items)) (sym (known_more bs fields (built ps))) fits.1)
-    (All-tail IsShort (item.Match fields ps) (next ∷ items) short) (apart_matched number bs fields ps (built ps) (next ∷ items) apart) (omega (arith, h))
+    ∙ walk_free code less n left (First (Val (VBits (parts_as_bits ps))) (Then (fields_pattern number fields) rest)) (put_in (numbered number (decoded fields (parts_as_bits ps))) rest)
+    (takes_then (world_of code) number (known bs) fields (parts_as_bits ps) rest fits.0.new here fits.0.fields_fit (even_bits (known bs) fields ps fits.0))
+    ∙ ap (λ t. walk code less n (standing left t)) (open_after number bs fields (parts_as_bits ps) (next ∷ items))
+    ∙ walk_items code less number (next ∷ items) (bs ++ decoded fields (parts_as_bits ps)) left n (subst (λ names. AreItems names (next ∷ items)) (sym (known_more bs fields (parts_as_bits ps))) fits.1)
+    (All-tail IsShort (item.Match fields ps) (next ∷ items) short) (apart_matched number bs fields ps (parts_as_bits ps) (next ∷ items) apart) (omega (arith, h))
 walk_items code less number (item.Display x ∷ []) bs left (suc (suc n)) fits short apart h =
     ap (λ t. walk code less (suc (suc n)) (standing left t)) (open_display_last number bs x fits.0 (apart_front number (known bs) (flat_map bound_by (item.Display x ∷ [])) apart))
     ∙ walk_shows_last code less number (suc n) left (bound_value bs x) bs

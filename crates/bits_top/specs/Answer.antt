@@ -58,7 +58,7 @@ pub record IsWhole (source : Port) (text : List ℕ) (m : Module) : Type 0 where
   pub short : length text ≤ text_limit
   pub accepts : Accepts text m
 
--- So it is, and the module has today's form; and its variables have numbers.
+-- So it is, and the text has today's form; and the module's variables have numbers.
 pub record IsAccepted (source : Port) (text : List ℕ) (tree : Module) : Type 0 where
   pub whole : IsWhole source text tree
   pub numbered : ∥ HaveNumbers tree ∥₁

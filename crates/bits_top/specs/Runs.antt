@@ -1,6 +1,6 @@
 -- What a module of today's form does (Erlang Reference Manual, "Bit Syntax Expressions", "Expressions"; that a display takes a
 -- reduction, and what an order and a report say of a run, are this project's own).
-use Rattle.std.specs.Prelude.{◌≡◌, ℕ, ℤ, pos, zero, suc, ◌-◌, List, [], ◌∷◌, ◌++◌, take, drop, map, sum_by, cond, nat_eq, codes, Bool, true, false}
+use Rattle.std.specs.Prelude.{◌≡◌, ℕ, ℤ, pos, zero, suc, ◌-◌, List, [], ◌∷◌, ◌++◌, take, drop, map, cond, nat_eq, codes, Bool, true, false}
 use Rattle.std.specs.List.{flat_map}
 use Rattle.std.specs.Fmt.{signed_decimal}
 use Rattle.bits_value.specs.Number.{natural, spell}
@@ -19,15 +19,12 @@ use Rattle.bits_top.specs.declared.run.Ending.TheVariants.{Normal, Exhausted}
 use Rattle.bits_top.specs.declared.run.Outcome.{Outcome}
 use Rattle.bits_top.specs.declared.run.Progress.{Progress}
 
--- the bits of a bit expression: each part's integer in the part's size, one behind another
-abbrev pub built : List Part → List Bool
-built parts = flat_map (λ part. spell (part_size part.bits) (pos part.value) Big) parts
+-- The parts of a bit expression as bits: each part's integer in the part's size, one behind another. It is proved in
+-- `proofs/SameMatch.antt` that the language's `built` gives these bits.
+abbrev pub parts_as_bits : List Part → List Bool
+parts_as_bits parts = flat_map (λ part. spell (part_size part.bits) (pos part.value) Big) parts
 
--- the number of bits of a bit pattern
-abbrev pub fields_bits : List Field → ℕ
-fields_bits fields = sum_by (λ field. field.bits) fields
-
--- the variables of a bit pattern, each with the integer of its bits
+-- The variables of a bit pattern, each with the integer of its bits: what the language's `all_taken` binds, as is proved there too.
 abbrev pub decoded : List Field → List Bool → List Binding
 decoded [] bits = []
 decoded (field ∷ fields) bits = record { variable = field.variable; value = pos (natural (take field.bits bits)) } ∷ decoded fields (drop field.bits bits)
@@ -43,14 +40,14 @@ bound_value (binding ∷ bindings) variable = cond (nat_eq binding.variable vari
 -- what items display one after another, with these variables bound and so many reductions left
 abbrev pub shown_of : List Binding → List Item → ℕ → List ℤ
 shown_of bindings [] left = []
-shown_of bindings (Match fields parts ∷ items) left = shown_of (bindings ++ decoded fields (built parts)) items left
+shown_of bindings (Match fields parts ∷ items) left = shown_of (bindings ++ decoded fields (parts_as_bits parts)) items left
 shown_of bindings (Display variable ∷ items) zero = []
 shown_of bindings (Display variable ∷ items) (suc left) = bound_value bindings variable ∷ shown_of bindings items left
 
 -- how they end: a display for which no reduction is left is the end
 abbrev pub ending_of : List Binding → List Item → ℕ → Ending
 ending_of bindings [] left = Normal
-ending_of bindings (Match fields parts ∷ items) left = ending_of (bindings ++ decoded fields (built parts)) items left
+ending_of bindings (Match fields parts ∷ items) left = ending_of (bindings ++ decoded fields (parts_as_bits parts)) items left
 ending_of bindings (Display variable ∷ items) zero = Exhausted
 ending_of bindings (Display variable ∷ items) (suc left) = ending_of bindings items left
 
@@ -70,7 +67,7 @@ pub record HasRun (straight : Straight) (reductions : ℕ) (outcome : Outcome) :
 
 -- a match binds its variables behind the earlier ones
 pub record Matches (fields : List Field) (parts : List Part) (old new : Progress) : Type 0 where
-  pub bindings : new.bindings.items ≡ old.bindings.items ++ decoded fields (built parts)
+  pub bindings : new.bindings.items ≡ old.bindings.items ++ decoded fields (parts_as_bits parts)
   pub left : new.left ≡ old.left
   pub shown : new.shown.items ≡ old.shown.items
   pub entries : new.entries.items ≡ old.entries.items

@@ -2,8 +2,8 @@
 ghost use Rattle.std.specs.Prelude.{◌≡◌, ◌≤◌, ◌+◌, ◌*◌, ◌/◌, ◌++◌, [], ◌∷◌, Some, length, take, drop, IfOk, OnOk, All, sum_by, pos};
 ghost use Rattle.bits_value.specs.Bits.{all_bits, bit_list};
 ghost use Rattle.bits_value.specs.Number.{natural, spell};
-ghost use Rattle.first_form.specs.Form.{IsField, part_size, parts_bits};
-ghost use Rattle.bits_top.specs.Runs.{built, decoded, fields_bits};
+ghost use Rattle.first_form.specs.Form.{IsField, fields_bits, part_size, parts_bits};
+ghost use Rattle.bits_top.specs.Runs.{parts_as_bits, decoded};
 
 use bits_value::{Bits, Endian, put};
 use first_form::{Field, Part};
@@ -49,7 +49,7 @@ fn write(bytes: &mut Vec<u8>, at: u32, part: &Part)
 fn build(alloc: Global, parts: &[Part]) -> Result<Vec<u8>, AllocError>
     requires { parts_bits parts.now ≤ 134_217_728 }
     ensures room { IfOk result (λ bytes. parts_bits parts.now ≤ 8 * length bytes.items) }
-    ensures bits { IfOk result (λ bytes. take (parts_bits parts.now) (all_bits bytes.items) ≡ built parts.now) }
+    ensures bits { IfOk result (λ bytes. take (parts_bits parts.now) (all_bits bytes.items) ≡ parts_as_bits parts.now) }
 {
     let mut bytes = vec![in alloc; 0u8; total(parts).div_ceil(8) as usize]?;
     let mut at = 0;
@@ -90,7 +90,7 @@ fn binding_of(bits: &Bits, at: u32, field: &Field) -> Binding
 #[tactic(auto, using(crate::proofs::Binding::fields_fit))]
 fn decode(bits: &Bits, fields: &[Field], bindings: &mut Vec<Binding>) -> Result<(), AllocError>
     requires short { fields_bits fields.now ≤ 134_217_728 }
-    requires even { fields_bits fields.now ≡ length bits.now }
+    requires enough { fields_bits fields.now ≤ length bits.now }
     requires fit { All IsField fields.now }
     ensures { OnOk result (bindings.new.items ≡ bindings.old.items ++ decoded fields.now bits.now) }
 {
@@ -112,7 +112,7 @@ pub(crate) fn bind(
     requires short { parts_bits parts.now ≤ 134_217_728 }
     requires even { fields_bits fields.now ≡ parts_bits parts.now }
     requires fit { All IsField fields.now }
-    ensures { OnOk result (bindings.new.items ≡ bindings.old.items ++ decoded fields.now (built parts.now)) }
+    ensures { OnOk result (bindings.new.items ≡ bindings.old.items ++ decoded fields.now (parts_as_bits parts.now)) }
 {
     let bytes = build(alloc, parts)?;
     let bits = Bits::of(&bytes, 0, total(parts));

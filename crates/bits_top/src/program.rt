@@ -9,7 +9,7 @@ ghost use Rattle.bits_top.specs.declared.command.Run.{Run};
 use crate::command::{Command, command_of};
 use crate::streams::{ReadError, read_all, write_all};
 use crate::{Plain, Status, run, texts};
-use first_form::{Straight, straight_of};
+use first_form::{Straight, forms_have_trees, straight_of};
 use io_ports::{Gate, Place, Sink, Source};
 use module_accept::{Refusal, accept};
 use std::alloc::{AllocError, Global};
@@ -158,6 +158,7 @@ fn run_module<S: Source, A: Sink, B: Sink>(
         Err(Refusal::Line(line)) => return refuse(report, &line),
         Err(Refusal::Memory) => return Status::NoMemory,
     };
+    forms_have_trees();
     match straight_of(alloc, &text, checked.module()) {
         Ok(Some(straight)) => answer(alloc, reductions, &straight, report, order),
         Ok(None) => refuse(report, b"1:1: not built\n"),

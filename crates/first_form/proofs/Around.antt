@@ -6,11 +6,10 @@ use Rattle.std.proofs.lemmas.Bool.{eqb-true}
 use Rattle.std.proofs.lemmas.List.{length-take, get_or_default}
 use Rattle.std.proofs.Math.Seq.{split_at}
 use Rattle.std.proofs.lemmas.List.Elements.{All-nil, All-cons, All-get_or, All-weaker}
-use Rattle.erl_syntax.specs.Checking.{Spelled, IsBefore}
+use Rattle.erl_syntax.specs.Checking.{Spelled, IsBefore, RisingBy}
 use Rattle.erl_syntax.specs.declared.span.Span.{Span}
 use Rattle.erl_syntax.specs.declared.module.Module.{Module}
 use Rattle.erl_syntax.specs.declared.module.Head.{Head}
-use Rattle.first_form.specs.TreeOf.{Rising}
 use Rattle.first_form.specs.Walk.{IsNamed}
 
 pub one_at_all : {X : Type 0} (xs ys : List X) (y : X) → ys ≡ xs → 1 ≤ length ys → length ys < 2 → y ≡ get_or ys 0 y → xs ≡ y ∷ []
@@ -67,18 +66,18 @@ Stepping places n = (k : ℕ) (d : Span) → suc k < n → IsBefore (get_or plac
 stepping_rest : (a : Span) (places : List Span) → Stepping (a ∷ places) (length (a ∷ places)) → Stepping places (length places)
 stepping_rest a places h = λ k d l. h (suc k) d (omega arith)
 
-pub rising_from : (places : List Span) → Stepping places (length places) → Rising places
+pub rising_from : (places : List Span) → Stepping places (length places) → RisingBy (λ a. a) places
 rising_from [] h = tt
 rising_from (a ∷ []) h = (All-nil (IsBefore a), tt)
 rising_from (a ∷ b ∷ more) h =
-    let rest : Rising (b ∷ more) = rising_from (b ∷ more) (stepping_rest a (b ∷ more) h) in
+    let rest : RisingBy (λ a. a) (b ∷ more) = rising_from (b ∷ more) (stepping_rest a (b ∷ more) h) in
     let first : IsBefore a b = h 0 a (omega arith) in
     (All-cons (IsBefore a) b more first (All-weaker (IsBefore b) (IsBefore a) (λ c k. before_both a b c first k) more rest.0), rest)
 
-rising_at : (places : List Span) (k : ℕ) (d : Span) → Rising places → suc k < length places → IsBefore (get_or places k d) (get_or places (suc k) d)
+rising_at : (places : List Span) (k : ℕ) (d : Span) → RisingBy (λ a. a) places → suc k < length places → IsBefore (get_or places k d) (get_or places (suc k) d)
 rising_at [] k d h l = absurd (omega (arith, l))
 rising_at (a ∷ places) zero d h l = All-get_or (IsBefore a) places 0 d (omega arith) h.0
 rising_at (a ∷ places) (suc k) d h l = rising_at places k d h.1 (omega arith)
 
-pub rising_step : (places : List Span) → Rising places → Stepping places (length places)
+pub rising_step : (places : List Span) → RisingBy (λ a. a) places → Stepping places (length places)
 rising_step places h = λ k d l. rising_at places k d h l

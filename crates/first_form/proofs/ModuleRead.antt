@@ -8,8 +8,8 @@ use Rattle.std.proofs.lemmas.Grind.{flat_map-append}
 use Rattle.std.proofs.lemmas.List.Elements.{All-head, Contains-append_left}
 use Rattle.erl_syntax.specs.Bindings.{Bound, names, targets_of, segment_targets}
 use Rattle.erl_syntax.specs.Scopes.{Scope, AnExpr, APattern, ABody, Stands, head_body, item_value, item_pattern, part, Parts, Found, IsKnown, nothing_known, with_known, behind, to_match, past_patterns, past_items, item_targets}
-use Rattle.erl_syntax.specs.Checking.{IsRead, Place, IsPlace}
-use Rattle.erl_syntax.specs.Reading.{number_in}
+use Rattle.erl_syntax.specs.Checking.{IsRead, Place, IsPlace, RisingBy, IsNumber, AreNumbersIn, AreNumbersOf}
+use Rattle.erl_syntax.specs.Reading.{number_in, StandOnce}
 use Rattle.erl_syntax.specs.declared.span.Span.{Span}
 use Rattle.erl_syntax.specs.declared.expr.Expr.{Expr}
 use Rattle.erl_syntax.specs.declared.expr.Expr.TheVariants as x
@@ -23,8 +23,8 @@ use Rattle.term_value.specs.Tree as tree
 use Rattle.term_value.specs.Read.{Reading, body, patterns}
 use Rattle.term_value.specs.ReadTrees.{line_of, pattern_of, guard_tree, function_clauses, function_of, is_exported, int_eq, name_of, reading, module_of}
 use Rattle.first_form.specs.Form.{IsItem, AreItems, IsStraight, bound_by}
-use Rattle.first_form.specs.Numbers.{IsNumber, AreNumbersIn, AreNumbersOf, StandOnce, IsReadAs}
-use Rattle.first_form.specs.TreeOf.{Rising, IsItemOf, AreItemsOf, no_item, and_item, IsTreeOf}
+use Rattle.first_form.specs.Numbers.{IsReadAs}
+use Rattle.first_form.specs.TreeOf.{IsItemOf, AreItemsOf, no_item, and_item, IsTreeOf}
 use Rattle.first_form.specs.Whole.{line, module_by, AreApart}
 use Rattle.first_form.specs.declared.form.Field.{Field}
 use Rattle.first_form.specs.declared.form.Item.{Item}
@@ -153,14 +153,14 @@ module _ (m : Module) (f : syntax_function.Function) (c : syntax_clause.Clause) 
 
 -- numbers at places: one variable, one number, and the other way round
 module _ (number_at : Span → ℕ) (f : syntax_function.Function) (numbers : AreNumbersIn number_at f) where
-  rising_in : Rising numbers.bound
-  rising_in = rising_bound numbers.places numbers.bound numbers.binders numbers.rising
+  rising_in : RisingBy (λ a. a) numbers.bound
+  rising_in = rising_bound numbers.places numbers.bound numbers.has.binders numbers.has.rising
 
   pub agree_in : (a b : Place) → IsPlace f a → IsPlace f b → a.bound_at ≡ b.bound_at → number_at a.at ≡ number_at b.at
   agree_in a b h k e =
       let n : IsNumber numbers.bound a (number_at a.at) = numbers.numbers a h in
       let o : IsNumber numbers.bound b (number_at b.at) = numbers.numbers b k in
-      n.count ∙ same_front n.front a.bound_at n.back o.front b.bound_at o.back (subst Rising n.stands rising_in) (sym n.stands ∙ o.stands) e ∙ sym o.count
+      n.count ∙ same_front n.front a.bound_at n.back o.front b.bound_at o.back (subst (RisingBy (λ (z : Span). z)) n.stands rising_in) (sym n.stands ∙ o.stands) e ∙ sym o.count
 
   pub apart_in : (a b : Place) → IsPlace f a → IsPlace f b → number_at a.at ≡ number_at b.at → a.bound_at ≡ b.bound_at
   apart_in a b h k e =
@@ -194,7 +194,7 @@ module _ (number_at : Span → ℕ) (m : Module) (s : Straight) (t : IsTreeOf m 
       let u : Place = record { at = p.one.at; bound_at = p.one.at } in
       let v : Place = record { at = q.one.at; bound_at = q.one.at } in
       let same : p.one.at ≡ q.one.at = apart_in number_at t.function numbers u v p.holds q.holds (ap number_at p.at ∙ e ∙ sym (ap number_at q.at)) in
-      let rises : Rising (map (λ b. b.at) all) = subst Rising (sym (items_places m s.items t.places t.clause.body t.items)) t.rising in
+      let rises : RisingBy (λ a. a) (map (λ b. b.at) all) = subst (RisingBy (λ (z : Span). z)) (sym (items_places m s.items t.places t.clause.body t.items)) t.rising in
       let one : sole a ≡ sole b = same_name all (sole a) (sole b) rises (known a h) (known b k) (sym p.at ∙ same ∙ q.at) in
       cc
 

@@ -4,10 +4,9 @@ use Rattle.std.specs.Str.{bytes_eq}
 use Rattle.std.proofs.Math.Seq.{get_or-append_seam}
 use Rattle.std.proofs.lemmas.Map.Text.{is_eq-slice_cmp}
 use Rattle.erl_syntax.specs.Checking.{Spelled}
-use Rattle.erl_syntax.specs.Reading.{number_in}
+use Rattle.erl_syntax.specs.Reading.{number_in, StandOnce}
 use Rattle.erl_syntax.specs.declared.module.Module.{Module}
 use Rattle.term_value.specs.Machine.{atom_from}
-use Rattle.first_form.specs.Numbers.{StandOnce}
 
 module _ (m : Module) (atom : ℕ) (chars : List ℕ) (s : Spelled m atom chars) where
   pub spelled_name : slice_index_or m.atoms atom [] ≡ chars

@@ -3,12 +3,11 @@ use Rattle.std.proofs.Common.{◌≡◌, ℕ, Bool, true, false, ◌&&◌, cond,
 use Rattle.std.specs.List.{Contains}
 use Rattle.std.proofs.lemmas.Bool.Decides.{nat_tests}
 use Rattle.std.proofs.lemmas.List.Elements.{All-nil, All-cons, All-contains, Contains-append_cases}
-use Rattle.erl_syntax.specs.Checking.{IsBefore, Place, Rising, Uses, IsNumbered, AreNumbered}
+use Rattle.erl_syntax.specs.Checking.{IsBefore, Place, RisingBy, Uses, IsNumber, IsNumbered, AreNumbered, AreNumbersIn, HaveNumbers}
 use Rattle.erl_syntax.specs.declared.span.Span.{Span}
 use Rattle.erl_syntax.specs.declared.module.Module.{Module}
 use Rattle.erl_syntax.specs.declared.module.Function.{Function}
 use Rattle.erl_syntax.specs.declared.checking.VarUse.{VarUse}
-use Rattle.first_form.specs.Numbers.{IsNumber, AreNumbersIn, HaveNumbers}
 use Rattle.first_form.specs.TreeOf.{IsTreeOf}
 use Rattle.first_form.specs.declared.form.Straight.{Straight}
 use Rattle.first_form.proofs.Places.{among_one, test, not_before}
@@ -45,14 +44,13 @@ number_by [] uses at = 0
 number_by (a ∷ places) [] at = 0
 number_by (a ∷ places) (u ∷ uses) at = cond (same_span a.at at) u.number (number_by places uses at)
 
-numbers_by : (bound : List Span) (places : List Place) (uses : List VarUse) (a : Place) → Uses bound places uses → Rising places → Contains places a → IsNumber bound a (number_by places uses a.at)
+numbers_by : (bound : List Span) (places : List Place) (uses : List VarUse) (a : Place) → Uses bound places uses → RisingBy (λ a. a.at) places → Contains places a → IsNumber bound a (number_by places uses a.at)
 numbers_by bound places uses a Uses.ends r h = absurd (omega (arith, h.1))
 numbers_by bound places uses a (Uses.next b u more us given rest) r h =
     let P : Bool → Type 0 = λ t. IsNumber bound a (cond t u.number (number_by more us a.at)) in
     elim (Contains-append_cases (b ∷ []) more a h) [
       | inl k ↦ (let e : b ≡ a = among_one b a k in
-          let here : IsNumber bound b u.number = record { front = given.front; back = given.back; stands = given.stands; count = given.number } in
-          subst P (sym (one_span b.at a.at (ap (λ (c : Place). c.at) e))) (subst (λ c. IsNumber bound c u.number) e here))
+          subst P (sym (one_span b.at a.at (ap (λ (c : Place). c.at) e))) (subst (λ c. IsNumber bound c u.number) e given.number))
       | inr k ↦ (let later : IsNumber bound a (number_by more us a.at) = numbers_by bound more us a rest r.1 k in
           let before : IsBefore b.at a.at = All-contains (λ (c : Place). IsBefore b.at c.at) more a r.0 k in
           elim (test (same_span b.at a.at)) [
@@ -64,12 +62,9 @@ numbers_by bound places uses a (Uses.next b u more us given rest) r h =
 function_numbers : (f : Function) (uses : List VarUse) (n : IsNumbered f uses) → AreNumbersIn (number_by n.places uses) f
 function_numbers f uses n = record {
   places = n.places;
-  rising = n.rising;
-  stand = n.stand;
-  whole = n.whole;
   bound = n.bound;
-  binders = n.binders;
-  numbers = λ a h. numbers_by n.bound n.places uses a n.uses_of n.rising (n.whole a h);
+  has = n.has;
+  numbers = λ a h. numbers_by n.bound n.places uses a n.uses_of n.has.rising (n.has.whole a h);
 }
 
 -- the uses of a module's one function

@@ -1,6 +1,6 @@
 -- A tree is that of at most one module of the form.
 use Rattle.std.proofs.Common.{◌≡◌, ℕ, All, List, [], ◌∷◌, ◌++◌, length, Option, Some, refl, sym, ap, ◌∙◌, subst, arith}
-use Rattle.erl_syntax.specs.Checking.{Spelled}
+use Rattle.erl_syntax.specs.Checking.{Spelled, RisingBy}
 use Rattle.erl_syntax.specs.declared.span.Span.{Span}
 use Rattle.erl_syntax.specs.declared.expr.Expr.{Expr, out-Expr, out-roll-Expr}
 use Rattle.erl_syntax.specs.declared.expr.Expr.TheVariants as x
@@ -13,7 +13,7 @@ use Rattle.erl_syntax.specs.declared.module.Module.{Module}
 use Rattle.erl_syntax.specs.declared.module.Head.{Head}
 use Rattle.erl_syntax.specs.declared.module.Clause.{Clause}
 use Rattle.first_form.specs.Form.{IsField, IsPart}
-use Rattle.first_form.specs.TreeOf.{IsInteger, IsSizeOf, not_given, given, IsFieldOf, AreFieldsOf, no_field, and_field, IsPartOf, ArePartsOf, no_part, and_part, IsItemOf, match, display, AreItemsOf, no_item, and_item, IsTreeOf, Rising}
+use Rattle.first_form.specs.TreeOf.{IsInteger, IsSizeOf, not_given, given, IsFieldOf, AreFieldsOf, no_field, and_field, IsPartOf, ArePartsOf, no_part, and_part, IsItemOf, match, display, AreItemsOf, no_item, and_item, IsTreeOf}
 use Rattle.first_form.specs.Walk.{HasBody, HasFields, HasItem, HasItems}
 use Rattle.first_form.specs.declared.form.Field.{Field}
 use Rattle.first_form.specs.declared.form.Part.{Part}
@@ -140,12 +140,12 @@ tree_once m s t h k =
 
 -- places that don't rise are those of no tree
 pub not_rising : (m : Module) (s : Straight) (clause : Clause) (items : List Item) (body : List syntax_item.Item) (before after seen : List Span) → IsTreeOf m s → HasBody m clause → body ≡ clause.body →
-    HasItems m items body before after → before ≡ [] → seen ≡ after → (Rising seen → ⊥) → ⊥
+    HasItems m items body before after → before ≡ [] → seen ≡ after → (RisingBy (λ a. a) seen → ⊥) → ⊥
 not_rising m s clause items body before after seen h b e found none same falls =
     let clauses : h.clause ≡ clause = clause_once m h.clause clause (body_of m s h) b in
     let own : AreItemsOf m items found.here h.clause.body = subst (λ (xs : List syntax_item.Item). AreItemsOf m items found.here xs) (e ∙ ap (λ (x : Clause). x.body) (sym clauses)) found.tree in
     let once = items_once m s.items items h.places found.here h.clause.body h.items own in
-    falls (subst Rising (once.1 ∙ sym (same ∙ found.places ∙ ap (λ (xs : List Span). xs ++ found.here) none)) h.rising)
+    falls (subst (RisingBy (λ (a : Span). a)) (once.1 ∙ sym (same ∙ found.places ∙ ap (λ (xs : List Span). xs ++ found.here) none)) h.rising)
 
 -- ---- What a match was found to be
 

@@ -6,10 +6,8 @@ use Rattle.std.proofs.lemmas.Slice.Eq.{bytes_eq-Decides}
 use Rattle.std.proofs.lemmas.List.Elements.{All-nil, All-cons, All-head, All-tail, All-contains, Contains-append_right, Contains-append_cases}
 use Rattle.erl_syntax.specs.Bindings.{Bound, names}
 use Rattle.erl_syntax.specs.Scopes.{Found, IsKnown}
-use Rattle.erl_syntax.specs.Checking.{IsBefore, Place, Binders}
-use Rattle.erl_syntax.specs.Checking as checking
+use Rattle.erl_syntax.specs.Checking.{IsBefore, Place, RisingBy, Binders}
 use Rattle.erl_syntax.specs.declared.span.Span.{Span}
-use Rattle.first_form.specs.TreeOf.{Rising}
 
 -- ---- Lists
 
@@ -43,7 +41,7 @@ middle : (front : List Span) (x : Span) (back : List Span) → Contains (front +
 middle front x back = Contains-append_right front (x ∷ back) x (among_head x back)
 
 -- a place stands once
-pub same_front : (front : List Span) (x : Span) (back other : List Span) (y : Span) (rest : List Span) → Rising (front ++ x ∷ back) → front ++ x ∷ back ≡ other ++ y ∷ rest → x ≡ y → length front ≡ length other
+pub same_front : (front : List Span) (x : Span) (back other : List Span) (y : Span) (rest : List Span) → RisingBy (λ a. a) (front ++ x ∷ back) → front ++ x ∷ back ≡ other ++ y ∷ rest → x ≡ y → length front ≡ length other
 same_front [] x back [] y rest r e h = refl
 same_front [] x back (z ∷ other) y rest r e h =
     let tail : back ≡ other ++ y ∷ rest = cc in
@@ -71,7 +69,7 @@ before_bound s places bound (Binders.binds a more rest e b) h =
 before_bound s places bound (Binders.repeats a more rest e b) h = before_bound s more rest b (All-tail (λ (b : Place). IsBefore s b.at) a more h)
 
 -- the places at which variables get their values rise as all of them do
-pub rising_bound : (places : List Place) (bound : List Span) → Binders places bound → checking.Rising places → Rising bound
+pub rising_bound : (places : List Place) (bound : List Span) → Binders places bound → RisingBy (λ a. a.at) places → RisingBy (λ a. a) bound
 rising_bound places bound Binders.ends r = tt
 rising_bound places bound (Binders.binds a more rest e b) r = (before_bound a.at more rest b r.0, rising_bound more rest b r.1)
 rising_bound places bound (Binders.repeats a more rest e b) r = rising_bound more rest b r.1
@@ -150,7 +148,7 @@ here : (b : Bound) (bs : List Bound) (name : List ℕ) (t : Bool) → bytes_eq b
 here b bs name t e = ap (λ u. cond u b.at (place_in bs name)) e
 
 -- where places rise, names at one place are one
-pub same_name : (bs : List Bound) (m n : List ℕ) → Rising (map (λ b. b.at) bs) → IsKnown bs m → IsKnown bs n → place_in bs m ≡ place_in bs n → m ≡ n
+pub same_name : (bs : List Bound) (m n : List ℕ) → RisingBy (λ a. a) (map (λ b. b.at) bs) → IsKnown bs m → IsKnown bs n → place_in bs m ≡ place_in bs n → m ≡ n
 same_name [] m n r h k e = absurd (omega (arith, h.1))
 same_name (b ∷ bs) m n r h k e =
     let ats : List Span = map (λ b. b.at) bs in

@@ -42,6 +42,14 @@ abbrev pub AreNew : List ℕ → List Field → Type 0
 AreNew known [] = Unit {0}
 AreNew known (field ∷ fields) = (Contains known field.variable → ⊥) × AreNew (known ++ field.variable ∷ []) fields
 
+-- the number of bits of a bit pattern
+abbrev pub fields_bits : List Field → ℕ
+fields_bits fields = sum_by (λ field. field.bits) fields
+
+-- that of a bit expression
+abbrev pub parts_bits : List Part → ℕ
+parts_bits parts = sum_by (λ part. part_size part.bits) parts
+
 -- a match of new variables, with as many bits on both sides
 pub record IsMatch (known : List ℕ) (fields : List Field) (parts : List Part) : Type 0 where
   pub some_fields : 0 < length fields
@@ -49,7 +57,7 @@ pub record IsMatch (known : List ℕ) (fields : List Field) (parts : List Part) 
   pub fields_fit : All IsField fields
   pub parts_fit : All IsPart parts
   pub new : AreNew known fields
-  pub even : sum_by (λ field. field.bits) fields ≡ sum_by (λ part. part_size part.bits) parts
+  pub even : fields_bits fields ≡ parts_bits parts
 
 -- an item where these variables are known
 abbrev pub IsItem : List ℕ → Item → Type 0
@@ -70,10 +78,6 @@ pub record IsStraight (straight : Straight) : Type 0 where
   pub name : IsName straight.name
   pub some : 0 < length straight.items
   pub items : AreItems [] straight.items
-
--- the bits of a bit expression
-abbrev pub parts_bits : List Part → ℕ
-parts_bits parts = sum_by (λ part. part_size part.bits) parts
 
 -- within the bound of a bitstring
 abbrev pub IsShort : Item → Type 0

@@ -1,6 +1,6 @@
 // Whether the items of a module fit together.
-ghost use Rattle.std.specs.Prelude.{ℕ, List, [], IfOk, IsTrue, ◌↔◌, ◌≡◌, ◌++◌, map, sum_by, All};
-ghost use Rattle.first_form.specs.Form.{IsPart, IsItem, AreItems, AreNew, IsStraight, bound_by, part_size};
+ghost use Rattle.std.specs.Prelude.{ℕ, List, [], IfOk, IsTrue, ◌↔◌, ◌≡◌, ◌++◌, map, All};
+ghost use Rattle.first_form.specs.Form.{IsPart, IsItem, AreItems, AreNew, IsStraight, bound_by, fields_bits, part_size, parts_bits};
 ghost use Rattle.first_form.specs.Walk.{Fits};
 
 use crate::form::{Field, Item, Part, Straight};
@@ -17,7 +17,7 @@ fn size_of_part(part: &Part) -> u32
 // Whether a pattern has as many bits as an expression.
 fn are_even(fields: &[Field], parts: &[Part]) -> bool
     requires { All IsPart parts.now }
-    ensures { IsTrue result ↔ (sum_by (λ field. field.bits) fields.now ≡ sum_by (λ part. part_size part.bits) parts.now) }
+    ensures { IsTrue result ↔ (fields_bits fields.now ≡ parts_bits parts.now) }
 {
     let left: u128 = fields.iter().map(|field| u128::from(field.bits)).sum();
     let right: u128 = parts

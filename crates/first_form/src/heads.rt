@@ -2,8 +2,8 @@
 ghost use Rattle.std.specs.Prelude.{ℕ, List, MatchBool, MatchOption, IfOk, ◌≡◌, [], All};
 ghost use Rattle.erl_syntax.specs.declared.span.Span.{Span};
 ghost use Rattle.erl_syntax.specs.declared.module.Clause.{Clause};
-ghost use Rattle.erl_syntax.specs.Checking.{Spelled};
-ghost use Rattle.first_form.specs.TreeOf.{IsTreeOf, Rising};
+ghost use Rattle.erl_syntax.specs.Checking.{Spelled, RisingBy};
+ghost use Rattle.first_form.specs.TreeOf.{IsTreeOf};
 ghost use Rattle.first_form.specs.Walk.{IsNamed, ExportsMain, HasBody, Fits};
 ghost use Rattle.first_form.specs.declared.form.Straight.{Straight};
 
@@ -64,7 +64,7 @@ fn body(tree: &Module) -> Option<&[Item]>
 
 // Whether each place stands before those behind it.
 fn are_rising(places: &[Span]) -> bool
-    ensures { MatchBool result (Rising places.now) (Rising places.now → ⊥) }
+    ensures { MatchBool result (RisingBy (λ a. a) places.now) (RisingBy (λ a. a) places.now → ⊥) }
 {
     for i in 1..places.len() {
         if !is_before(places[i - 1], places[i]) {

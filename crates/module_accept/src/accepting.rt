@@ -74,7 +74,7 @@ fn unchecked(alloc: Global, fault: CheckFault) -> Refusal
 /// The line of the text's first fault, or that memory ran out.
 pub fn accept(alloc: Global, text: &[u8]) -> Result<Checked, Refusal>
     ensures accepted { IfOk result (λ checked. Accepts text.now checked.tree) }
-    ensures only { IfOk result (λ checked. (other : Module) → Accepts text.now other → other ≡ checked.tree) }
+    ensures only { IfOk result (λ checked. (other : Module) → Reads text.now other → other ≡ checked.tree) }
     ensures fixed { IfOk result (λ checked. (more : List (List ℕ)) × (checked.tree.atoms ≡ fixed_atoms ++ more)) }
     ensures once { IfOk result (λ checked. (i : ℕ) → i < length checked.tree.atoms → number_in checked.tree.atoms (slice_index_or checked.tree.atoms i []) ≡ i) }
     ensures refused { IfErr result (λ refusal. Refuses text.now refusal) }

@@ -1,5 +1,5 @@
 use Rattle.std.proofs.Common.{◌≡◌, take, drop}
-use Rattle.bits_top.specs.Runs.{fields_bits}
+use Rattle.first_form.specs.Form.{fields_bits}
 use Rattle.bits_top.proofs.Binding.{DecodesTo}
 use Rattle.bits_top.proofs.matching.decode.Given as goal
 

@@ -1,4 +1,6 @@
-use Rattle.std.proofs.Common.{◌≤◌, length, codes, refl, ap, sym, ◌∙◌, arith, rules, inl, inr}
+use Rattle.std.proofs.Common.{◌≤◌, length, codes, refl, ap, sym, ◌∙◌, subst, arith, rules, inl, inr}
+use Rattle.erl_syntax.specs.declared.module.Module.{Module}
+use Rattle.first_form.specs.TreeOf.{IsForm, IsTreeOf}
 use Rattle.bits_top.specs.Answer.{IsTable}
 use Rattle.bits_top.proofs.Answers.{refusal_answers, accepted_answers, form_of, held_long, none_built, numbered_tree, only_of, unaccepted, whole_of}
 use Rattle.bits_top.proofs.program.run_module.Goals as goal
@@ -21,7 +23,9 @@ returns-in-Ok-None g c =
     let tree = c.in-Ok-accept.checked.tree in
     let whole = whole_of _ c.in-Ok.text.items c.deref.result.now tree c.deref.ensures.value c.in-Ok.ensures.read.taken (c.in-Ok.ensures.read.whole short) short c.in-Ok-accept.ensures.accepted in
     let only = only_of c.deref.result.now c.in-Ok.text.items tree c.deref.ensures.value c.in-Ok-accept.ensures.only in
-    let none = none_built c.in-Ok.text.items tree only (λ s f. c.in-Ok-None.ensures.none c.in-Ok-None.field-0-is s (form_of c.in-Ok.text.items c.deref-2.result.now tree c.module.result.now s (sym c.deref-2.ensures.value) (sym c.module.ensures.same) f)) in
+    let missing = c.in-Ok-None.ensures.none c.in-Ok-None.field-0-is in
+    let none = none_built c.in-Ok.text.items tree only (λ s f. c.forms_have_trees.ensures c.in-Ok.text.items s short f)
+    (λ s f t. missing s (form_of c.in-Ok.text.items c.deref-2.result.now s (sym c.deref-2.ensures.value) f) (subst (λ (m : Module). IsTreeOf m s) (sym c.module.ensures.same) t)) in
     refusal_answers c.refuse-in-Ok-None.result c.args.reductions c.in-Ok.text.items (codes "1:1: not built\n") _ _ _ (inr (record { tree = tree; whole = whole; none = none; due = refl })) (record { told = refl; count = refl })
     c.refuse-in-Ok-None.ensures
 
@@ -33,8 +37,11 @@ returns-in-Ok-Some g c =
     let short : length c.in-Ok.text.items ≤ 1_048_576 = omega arith in
     let tree = c.in-Ok-accept.checked.tree in
     let whole = whole_of _ c.in-Ok.text.items c.deref.result.now tree c.deref.ensures.value c.in-Ok.ensures.read.taken (c.in-Ok.ensures.read.whole short) short c.in-Ok-accept.ensures.accepted in
-    let form = form_of c.deref-2.result.now c.in-Ok.text.items c.module.result.now tree c.in-Ok-Some.straight c.deref-2.ensures.value c.module.ensures.same (search rules) in
+    let straight = c.in-Ok-Some.straight in
+    let found : IsForm c.deref-2.result.now straight × IsTreeOf c.module.result.now straight = search rules in
+    let form = form_of c.deref-2.result.now c.in-Ok.text.items straight c.deref-2.ensures.value found.0 in
+    let of = subst (λ (m : Module). IsTreeOf m straight) c.module.ensures.same found.1 in
     let table : IsTable tree.atoms = record { others = c.in-Ok-accept.ensures.fixed.0; fixed = c.in-Ok-accept.ensures.fixed.1; once = c.in-Ok-accept.ensures.once } in
-    let numbered = numbered_tree tree c.in-Ok-Some.straight c.in-Ok-accept.checked.vars.items form.tree c.in-Ok-accept.checked.numbered in
-    accepted_answers c.answer.result c.args.reductions c.in-Ok.text.items tree _ _ _ (record { whole = whole; numbered = numbered; straight = c.in-Ok-Some.straight; form = form }) table
+    let numbered = numbered_tree tree straight c.in-Ok-accept.checked.vars.items of c.in-Ok-accept.checked.numbered in
+    accepted_answers c.answer.result c.args.reductions c.in-Ok.text.items tree _ _ _ (record { whole = whole; numbered = numbered; straight = straight; form = form }) of table
     c.answer.ensures

@@ -20,7 +20,7 @@ returns-in-Err-check-clause-none c = elim c.in-Err-check.ensures.refused [
 ]
 
 pub returns-in-Ok-check-clause-only : goal.returns-in-Ok-check-clause-only
-returns-in-Ok-check-clause-only c = λ other a. c.in-Ok.ensures.only other a.reads ∙ sym c.in-Ok-check.ensures.accepted
+returns-in-Ok-check-clause-only c = λ other reads. c.in-Ok.ensures.only other reads ∙ sym c.in-Ok-check.ensures.accepted
 
 pub returns-in-Ok-check-clause-fixed : goal.returns-in-Ok-check-clause-fixed
 returns-in-Ok-check-clause-fixed c =
