@@ -1,9 +1,9 @@
-use Rattle.std.proofs.Common.{arith, ap, ◌≤◌, length}
+use Rattle.std.proofs.Common.{arith}
 use Rattle.clause_read.proofs.Texts.{place_there, place_behind, place_past}
 use Rattle.clause_read.proofs.read.place_of.Goals as goal
 
 pub returns-then-len-at : goal.returns-then-len-at
-returns-then-len-at c = ?
+returns-then-len-at c = place_past c.args.source.now c.args.at c.args.last (omega arith)
 
 pub returns-in-Some : goal.returns-in-Some
 returns-in-Some c = place_there c.args.source.now c.args.at c.in-Some.numbered c.args.last c.in-Some.ensures.token
