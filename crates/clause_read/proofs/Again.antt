@@ -13,7 +13,7 @@ use Rattle.pattern_read.proofs.Passing.{spells_at}
 use Rattle.body_read.proofs.Groups.{Fronts, longer, alike, shorter, fronts}
 use Rattle.clause_read.specs.declared.forms.ModuleForms.{ModuleForms}
 use Rattle.clause_read.specs.WantedForms.{anything, forms_in, ReadsForms}
-use Rattle.clause_read.specs.ReadText.{IsDecided, IsTold, told}
+use Rattle.clause_read.specs.ReadText.{IsTold, told}
 use Rattle.clause_read.specs.declared.read.ReadCause.{ReadCause}
 use Rattle.clause_read.specs.declared.read.ReadCause.TheVariants as r
 use Rattle.pattern_read.specs.Source.{Readable, limits_of}
@@ -62,6 +62,14 @@ with_last ws front at j a b =
 
 -- ---- Refused at the same token again
 
+-- causes in which the limits on depth play no part
+abbrev IsDecided : Cause → Type 0
+IsDecided Syntax = Unit {0}
+IsDecided TooDeep = ⊥
+IsDecided UnknownAttribute = Unit {0}
+IsDecided UnknownSegmentType = Unit {0}
+IsDecided Undecided = ⊥
+
 stops_any : (why : Cause) (most wider l : Limits) → IsDecided why → Stops most why l → Stops wider why l
 stops_any Syntax most wider l i s = tt
 stops_any TooDeep most wider l i s = absurd i
@@ -84,9 +92,9 @@ excused_again ws front at UnknownAttribute i v e = goes_on_again ws front at Unk
 excused_again ws front at UnknownSegmentType i v e = goes_on_again ws front at UnknownSegmentType v e
 excused_again ws front at Undecided i v e = absurd i
 
-pub refused_again : {most wider : Limits} (ws : List Word) (at : ℕ) (why : Cause) → IsWide most wider → IsDecided why → IsRefused most anything forms_in ws (drop at ws) Undecided →
+refused_decided : {most wider : Limits} (ws : List Word) (at : ℕ) (why : Cause) → IsWide most wider → IsDecided why → IsRefused most anything forms_in ws (drop at ws) Undecided →
     IsRefused wider anything forms_in (take (at + 1) ws) (drop at (take (at + 1) ws)) why → IsRefused most anything forms_in ws (drop at ws) why
-refused_again {most = most} {wider = wider} ws at why v i p q =
+refused_decided {most = most} {wider = wider} ws at why v i p q =
     let e : q.front ≡ p.front = same_front ws p.front q.front at p.whole q.whole in
     let P : List Word → Type 0 = λ f. Excused wider forms_in f (drop at (take (at + 1) ws)) why in
     record {
@@ -100,6 +108,30 @@ refused_again {most = most} {wider = wider} ws at why v i p q =
           q.stops l (stops_any why most wider l i s) x gs w f (subst Q (sym (last_token ws at)) (head_kept (drop at ws) w h)) (spells_at (ap (λ u. u ++ w) (sym e)) d);
       excused = excused_again ws p.front at why i v (subst P e q.excused);
     }
+
+-- too deep there too: limits that are wider still allow the token
+refused_deep : {most wider : Limits} (ws : List Word) (at : ℕ) → IsWide most wider → IsRefused most anything forms_in ws (drop at ws) Undecided →
+    IsRefused wider anything forms_in (take (at + 1) ws) (drop at (take (at + 1) ws)) TooDeep → IsRefused most anything forms_in ws (drop at ws) TooDeep
+refused_deep {wider = wider} ws at v p q =
+    let e : q.front ≡ p.front = same_front ws p.front q.front at p.whole q.whole in
+    let P : List Word → Type 0 = λ f. GoesOn wider forms_in f (drop at (take (at + 1) ws)) TooDeep in
+    record {
+      front = p.front;
+      whole = p.whole;
+      tree = p.tree;
+      more = p.more;
+      goes_on = p.goes_on;
+      stops = λ l s x gs w f k d. p.stops l s x gs w f k d;
+      excused = goes_on_again ws p.front at TooDeep v (subst P e q.excused);
+    }
+
+refused_again : {most wider : Limits} (ws : List Word) (at : ℕ) (why : Cause) (cause : ReadCause) → told why ≡ Some cause → IsWide most wider → IsRefused most anything forms_in ws (drop at ws) Undecided →
+    IsRefused wider anything forms_in (take (at + 1) ws) (drop at (take (at + 1) ws)) why → IsRefused most anything forms_in ws (drop at ws) why
+refused_again ws at Syntax cause t v p q = refused_decided ws at Syntax v tt p q
+refused_again ws at TooDeep cause t v p q = refused_deep ws at v p q
+refused_again ws at UnknownAttribute cause t v p q = refused_decided ws at UnknownAttribute v tt p q
+refused_again ws at UnknownSegmentType cause t v p q = refused_decided ws at UnknownSegmentType v tt p q
+refused_again ws at Undecided cause t v p q = absurd cc
 
 -- ---- Read past the token
 
@@ -240,9 +272,9 @@ told_past s ws at count place why cause e c n p g b =
     let P : Readable → Type 0 = λ v. ReadsForms v (Err (Refused place why)) in
     told_deep ws at count cause c p (λ h. refused_past ws at place why n p (subst P e g) h) b
 
-pub told_there : (s : Readable) (ws : List Word) (at place : ℕ) (why : Cause) (cause : ReadCause) → s ≡ front_of ws at → place ≡ at → IsRefused strict anything forms_in ws (drop at ws) Undecided → ReadsForms s (Err (Refused place why)) → (cause ≡ r.NoMemory) ⊎ (IsDecided why × (told why ≡ Some cause)) → Answers ws at cause
+pub told_there : (s : Readable) (ws : List Word) (at place : ℕ) (why : Cause) (cause : ReadCause) → s ≡ front_of ws at → place ≡ at → IsRefused strict anything forms_in ws (drop at ws) Undecided → ReadsForms s (Err (Refused place why)) → (cause ≡ r.NoMemory) ⊎ (told why ≡ Some cause) → Answers ws at cause
 told_there s ws at place why cause e i p g (inl m) = inl m
 told_there s ws at place why cause e i p g (inr d) =
     let P : Readable → Type 0 = λ v. ReadsForms v (Err (Refused place why)) in
     let Q : ℕ → Type 0 = λ v. ReadsForms (front_of ws at) (Err (Refused v why)) in
-    inr (record { why = why; is = d.1; refused = refused_again ws at why wide d.0 p (subst Q i (subst P e g)) })
+    inr (record { why = why; is = d; refused = refused_again ws at why cause d wide p (subst Q i (subst P e g)) })

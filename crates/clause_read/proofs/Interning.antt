@@ -9,7 +9,7 @@ use Rattle.indexmap.specs.IndexSet.{insert_key}
 use Rattle.erl_syntax.specs.Word.{Word}
 use Rattle.erl_syntax.specs.Tokens.{token_text}
 use Rattle.erl_syntax.specs.Characters.{atom_text}
-use Rattle.erl_syntax.specs.Reading.{number_in, with_atom, after_token, after_tokens, number_of, word_of, words_of}
+use Rattle.erl_syntax.specs.Reading.{number_in, with_atom, after_token, after_tokens, number_of, word_of}
 use Rattle.erl_syntax.specs.declared.token.Token.{Token}
 use Rattle.erl_syntax.specs.declared.token.TokenKind.{TokenKind}
 use Rattle.erl_syntax.specs.declared.token.TokenKind.TheVariants as k
@@ -107,14 +107,15 @@ number_alike old new _ bs f = refl
 word_alike : (text : List ℕ) (old new : List (List ℕ)) (t : Token) → number_of new t.kind (token_text text t) ≡ number_of old t.kind (token_text text t) → word_of text new t ≡ word_of text old t
 word_alike text old new t e = ap (λ n. let w : Word = record (word_of text old t) { number = n } in w) e
 
-pub words_at_once : (text : List ℕ) (table : List (List ℕ)) (ts : List Token) → words_of text (after_tokens text table ts) ts ≡ words_after text table ts
+-- the words of tokens, of which none is joined
+pub words_at_once : (text : List ℕ) (table : List (List ℕ)) (ts : List Token) → map (word_of text (after_tokens text table ts)) ts ≡ words_after text table ts
 words_at_once text table [] = refl
 words_at_once text table (t ∷ ts) =
     let bs : List ℕ = token_text text t in
     let next : List (List ℕ) = after_token table t.kind bs in
     let end : List (List ℕ) = after_tokens text next ts in
     let one : word_of text end t ≡ word_of text next t = word_alike text next end t (number_alike next end t.kind bs (λ e. (keeps_tokens text next ts (atom_text bs) (has_token table t.kind bs e)).same)) in
-    ap (λ w. w ∷ words_of text end ts) one ∙ ap (λ ws. word_of text next t ∷ ws) (words_at_once text next ts)
+    ap (λ w. w ∷ map (word_of text end) ts) one ∙ ap (λ ws. word_of text next t ∷ ws) (words_at_once text next ts)
 
 -- ---- A set of names in order
 

@@ -13,4 +13,5 @@ pub mod Modules
 pub mod NameLaws
 pub mod Numbers
 pub mod Once
+pub mod Strings
 pub mod Texts

@@ -1,5 +1,5 @@
 -- The module that a text spells, and the fault of a text that spells none.
-use Rattle.std.proofs.Common.{◌≡◌, ℕ, ◌≤◌, ◌<◌, ◌⊎◌, inl, inr, List, [], ◌∷◌, ◌++◌, length, drop, Option, Some, None, Ok, Err, refl, sym, ap, subst, ◌∙◌, arith}
+use Rattle.std.proofs.Common.{◌≡◌, ℕ, ◌+◌, ◌≤◌, ◌<◌, ◌⊎◌, inl, inr, Bool, true, false, if◌then◌else◌, map, List, [], ◌∷◌, ◌++◌, length, drop, Option, Some, None, Ok, Err, refl, sym, ap, subst, ◌∙◌, arith}
 use Rattle.std.proofs.lemmas.List.{length-map}
 use Rattle.erl_syntax.specs.declared.span.Span.{Span}
 use Rattle.erl_syntax.specs.declared.token.Token.{Token}
@@ -9,7 +9,7 @@ use Rattle.erl_syntax.specs.declared.token.LexCause.TheVariants.{NoMemory}
 use Rattle.erl_syntax.specs.declared.module.Module.{Module}
 use Rattle.erl_syntax.specs.Word.{Word}
 use Rattle.erl_syntax.specs.Tokens.{Lexes, place}
-use Rattle.erl_syntax.specs.Reading.{Reads, longest_text, atoms_of, words_of, word_of}
+use Rattle.erl_syntax.specs.Reading.{Reads, longest_text, atoms_of, words_of, word_of, are_strings, before, joined}
 use Rattle.erl_syntax.specs.Grammar.{Limits, Spells, ends, strict}
 use Rattle.erl_tokens.specs.Cutting.{IsFault}
 use Rattle.pattern_read.specs.declared.fault.Cause.{Cause}
@@ -125,9 +125,9 @@ token_none one text first fault (inl m) e = inl (ap (λ f. f.why) e ∙ ap told_
 token_none one text first fault (inr d) e = inr (λ m r. some_no_none {x = first} (one text d.0 r.tokens (Some first) None d.1 r.lexes).1)
 
 -- the words of a source that has the text and its numbered tokens
-pub source_words : (text copy : List ℕ) (tokens : List Token) (numbered : List Numbered) (all : List Word) → all ≡ words copy numbered → copy ≡ text → words text numbered ≡ words_of text (atoms_of text tokens) tokens →
-    all ≡ words_of text (atoms_of text tokens) tokens
-source_words text copy tokens numbered all e s w = e ∙ ap (λ t. words t numbered) s ∙ w
+pub source_words : (text copy : List ℕ) (tokens : List Token) (strings : List (List ℕ)) (numbered : List Numbered) (all : List Word) → all ≡ words copy strings numbered → copy ≡ text →
+    words text strings numbered ≡ words_of text (atoms_of text tokens) tokens → all ≡ words_of text (atoms_of text tokens) tokens
+source_words text copy tokens strings numbered all e s w = e ∙ ap (λ t. words t strings numbered) s ∙ w
 
 -- what is read of a source with the limits of modules
 pub forms_strict : (s : Readable) (fs : ModuleForms) → s.limits ≡ strict → ReadsForms s (Ok fs) → Passes strict anything forms_in s.words nothing [] (λ u. fs)
@@ -136,10 +136,28 @@ forms_strict s fs e g = let P : Limits → Type 0 = λ m. Passes m anything form
 pub refused_strict : (s : Readable) (at : ℕ) (why : Cause) → s.limits ≡ strict → ReadsForms s (Err (Refused at why)) → IsRefused strict anything forms_in s.words (drop at s.words) why
 refused_strict s at why e g = let P : Limits → Type 0 = λ m. IsRefused m anything forms_in s.words (drop at s.words) why in subst P e g
 
-pub source_short : (text : List ℕ) (tokens : List Token) (all : List Word) (n : ℕ) → all ≡ words_of text (atoms_of text tokens) tokens → length tokens < n → length all < n
-source_short text tokens all n e h = let l : length all ≡ length tokens = ap length e ∙ length-map tokens (word_of text (atoms_of text tokens)) in omega (arith, l, h)
+-- there are no more words than tokens
+before_short : (w : Word) (ws : List Word) → length (before w ws) ≤ 1 + length ws
+before_short w [] = omega arith
+before_short w (v ∷ ws) = by (are_strings w.kind v.kind)
+  where
+    one : Word
+    one = record { kind = w.kind; at = w.at; number = w.number; chars = w.chars ++ v.chars }
 
-pub refused_place : (text : List ℕ) (tokens same : List Token) (all : List Word) (at : ℕ) (last here : Span) → all ≡ words_of text (atoms_of text tokens) tokens → same ≡ tokens →
-    here ≡ place_in last (drop at (words_of text (atoms_of text tokens) same)) → last ≡ place text (length text) → here ≡ place_in (place text (length text)) (drop at all)
-refused_place text tokens same all at last here w e h l =
-    h ∙ ap (λ ts. place_in last (drop at (words_of text (atoms_of text tokens) ts))) e ∙ ap (λ v. place_in last (drop at v)) (sym w) ∙ ap (λ v. place_in v (drop at all)) l
+    by : (b : Bool) → length (if b then one ∷ ws else w ∷ v ∷ ws) ≤ 1 + length (v ∷ ws)
+    by true = omega arith
+    by false = omega arith
+
+joined_short : (ws : List Word) → length (joined ws) ≤ length ws
+joined_short [] = omega arith
+joined_short (w ∷ ws) = let h : length (joined ws) ≤ length ws = joined_short ws in let k : length (before w (joined ws)) ≤ 1 + length (joined ws) = before_short w (joined ws) in omega (arith, h, k)
+
+pub source_short : (text : List ℕ) (tokens : List Token) (all : List Word) (n : ℕ) → all ≡ words_of text (atoms_of text tokens) tokens → length tokens < n → length all < n
+source_short text tokens all n e h =
+    let f : Token → Word = word_of text (atoms_of text tokens) in
+    let s : length (joined (map f tokens)) ≤ length (map f tokens) = joined_short (map f tokens) in
+    let l : length all ≡ length (joined (map f tokens)) = ap length e in
+    let m : length (map f tokens) ≡ length tokens = length-map tokens f in omega (arith, l, s, m, h)
+
+pub refused_place : (text : List ℕ) (all : List Word) (at : ℕ) (last here : Span) → here ≡ place_in last (drop at all) → last ≡ place text (length text) → here ≡ place_in (place text (length text)) (drop at all)
+refused_place text all at last here h l = h ∙ ap (λ v. place_in v (drop at all)) l

@@ -4,16 +4,12 @@ use Rattle.std.proofs.lemmas.List.{length-append, get_or_append_left, get_or_pus
 use Rattle.erl_syntax.specs.Atoms.{fixed_atoms}
 use Rattle.erl_syntax.specs.Tokens.{token_text}
 use Rattle.erl_syntax.specs.Characters.{atom_text}
-use Rattle.erl_syntax.specs.Reading.{number_in, with_atom, after_token, after_tokens, atoms_of}
+use Rattle.erl_syntax.specs.Reading.{number_in, StandOnce, with_atom, after_token, after_tokens, atoms_of}
 use Rattle.erl_syntax.specs.declared.token.Token.{Token}
 use Rattle.erl_syntax.specs.declared.token.TokenKind.{TokenKind}
 use Rattle.erl_syntax.specs.declared.token.TokenKind.TheVariants as k
 use Rattle.clause_read.specs.Numbering.{with_each}
 use Rattle.clause_read.proofs.Interning.{Has, number_pushed, kept_pushed, number_within}
-
--- each atom's number is its place
-abbrev pub Once : List (List ℕ) → Type 0
-Once table = (i : ℕ) → i < length table → number_in table (get_or table i []) ≡ i
 
 below_or_at : (i n : ℕ) → i < n + 1 → (i < n) ⊎ (i ≡ n)
 below_or_at i n h = by (nat_lt i n) refl
@@ -22,7 +18,7 @@ below_or_at i n h = by (nat_lt i n) refl
     by true e = let g : i < n = grind (arith, e) in inl g
     by false e = let g : i ≡ n = grind (arith, e, h) in inr g
 
-pushed_once : (table : List (List ℕ)) (a : List ℕ) → length table ≤ number_in table a → Once table → Once (table ++ a ∷ [])
+pushed_once : (table : List (List ℕ)) (a : List ℕ) → length table ≤ number_in table a → StandOnce table → StandOnce (table ++ a ∷ [])
 pushed_once table a n o i h = by (below_or_at i (length table) (let e : length (table ++ a ∷ []) ≡ length table + 1 = length-append table (a ∷ []) in omega (arith, e, h)))
   where
     by : (i < length table) ⊎ (i ≡ length table) → number_in (table ++ a ∷ []) (get_or (table ++ a ∷ []) i []) ≡ i
@@ -36,30 +32,30 @@ pushed_once table a n o i h = by (below_or_at i (length table) (let e : length (
         let p : number_in (table ++ a ∷ []) a ≡ number_in table a = number_pushed table a in
         ap (number_in (table ++ a ∷ [])) e ∙ (omega (arith, w, p, n, l))
 
-atom_once : (table : List (List ℕ)) (a : List ℕ) → Once table → Once (with_atom table a)
+atom_once : (table : List (List ℕ)) (a : List ℕ) → StandOnce table → StandOnce (with_atom table a)
 atom_once table a o = by (nat_lt (number_in table a) (length table)) refl
   where
-    by : (b : Bool) → nat_lt (number_in table a) (length table) ≡ b → Once (if b then table else table ++ a ∷ [])
+    by : (b : Bool) → nat_lt (number_in table a) (length table) ≡ b → StandOnce (if b then table else table ++ a ∷ [])
     by true e = o
     by false e = let n : length table ≤ number_in table a = grind (arith, e) in pushed_once table a n o
 
-each_once : (table atoms : List (List ℕ)) → Once table → Once (with_each table atoms)
+each_once : (table atoms : List (List ℕ)) → StandOnce table → StandOnce (with_each table atoms)
 each_once table [] o = o
 each_once table (a ∷ as_) o = each_once (with_atom table a) as_ (atom_once table a o)
 
-fixed_once : Once fixed_atoms
-fixed_once = let start : Once [] = λ i h. absurd (omega (arith, h)) in let P : List (List ℕ) → Type 0 = λ t. Once t in
+fixed_once : StandOnce fixed_atoms
+fixed_once = let start : StandOnce [] = λ i h. absurd (omega (arith, h)) in let P : List (List ℕ) → Type 0 = λ t. StandOnce t in
     let e : with_each [] fixed_atoms ≡ fixed_atoms = refl in subst P e (each_once [] fixed_atoms start)
 
-token_once : (table : List (List ℕ)) (kind : TokenKind) (bs : List ℕ) → Once table → Once (after_token table kind bs)
+token_once : (table : List (List ℕ)) (kind : TokenKind) (bs : List ℕ) → StandOnce table → StandOnce (after_token table kind bs)
 token_once table k.Atom bs o = atom_once table (atom_text bs) o
 token_once table _ bs o = o
 
-tokens_once : (text : List ℕ) (table : List (List ℕ)) (ts : List Token) → Once table → Once (after_tokens text table ts)
+tokens_once : (text : List ℕ) (table : List (List ℕ)) (ts : List Token) → StandOnce table → StandOnce (after_tokens text table ts)
 tokens_once text table [] o = o
 tokens_once text table (t ∷ ts) o = tokens_once text (after_token table t.kind (token_text text t)) ts (token_once table t.kind (token_text text t) o)
 
-pub atoms_once : (text : List ℕ) (tokens : List Token) → Once (atoms_of text tokens)
+pub atoms_once : (text : List ℕ) (tokens : List Token) → StandOnce (atoms_of text tokens)
 atoms_once text tokens = tokens_once text fixed_atoms tokens fixed_once
 
 -- a table that begins with another

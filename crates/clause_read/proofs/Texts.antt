@@ -1,10 +1,10 @@
 -- Tokens within their text, and places.
-use Rattle.std.proofs.Common.{◌≡◌, ℕ, suc, ◌+◌, ◌-◌, ◌<◌, ◌≤◌, min, Bool, List, [], ◌∷◌, length, drop, get_or, map, refl, sym, ap, arith, ◌∙◌, Option}
+use Rattle.std.proofs.Common.{◌≡◌, ℕ, suc, ◌+◌, ◌-◌, ◌<◌, ◌≤◌, min, Bool, List, [], ◌∷◌, length, drop, get_or, refl, sym, ap, arith, ◌∙◌, Option}
 use Rattle.std.specs.Prelude.{All}
 use Rattle.std.specs.List.{AllByRecursion}
 use Rattle.std.proofs.Math.Seq.{drop-cons}
 use Rattle.std.proofs.Math.ListN.{drop_of_length-le}
-use Rattle.std.proofs.lemmas.List.{drop-map, length-map, length-drop, length-take}
+use Rattle.std.proofs.lemmas.List.{length-drop, length-take}
 use Rattle.std.proofs.lemmas.List.Elements.{All-from_recursion}
 use Rattle.std.specs.Str.Lossy.{utf8_valid_len}
 use Rattle.erl_syntax.specs.declared.span.Span.{Span}
@@ -12,9 +12,9 @@ use Rattle.erl_syntax.specs.declared.token.Token.{Token}
 use Rattle.erl_syntax.specs.declared.token.TokenKind.{TokenKind}
 use Rattle.erl_syntax.specs.declared.token.LexFault.{LexFault}
 use Rattle.erl_syntax.specs.declared.token.Piece.TheVariants as p
-use Rattle.erl_syntax.specs.Word.{Word}
 use Rattle.erl_syntax.specs.Tokens.{after, place_from, piece, front, is_cut, Lexes, LexesFrom, ends, stops, skips, finds, refuses}
-use Rattle.erl_syntax.specs.Reading.{words_of, word_of}
+use Rattle.pattern_read.specs.declared.source.Numbered.{Numbered}
+use Rattle.pattern_read.specs.Source.{Readable, StandsAt}
 use Rattle.clause_read.specs.Numbering.{IsWithin}
 use Rattle.clause_read.specs.ReadText.{place_in}
 
@@ -29,16 +29,14 @@ place_step at i bs h =
     let e : length bs - i ≡ suc (length bs - (i + 1)) = omega arith in
     rw (e, front_at bs i h) refl
 
-pub place_there : (last : Span) (at : ℕ) (tokens : List Token) (d : Token) (text : List ℕ) (table : List (List ℕ)) → at < length tokens → (get_or tokens at d).span ≡ place_in last (drop at (words_of text table tokens))
-place_there last at tokens d text table h =
-    let f : Token → Word = word_of text table in
-    let e : drop at (words_of text table tokens) ≡ f (get_or tokens at d) ∷ map f (drop (suc at) tokens) = drop-map f at tokens ∙ ap (map f) (drop-cons tokens at d h) in
-    sym (ap (place_in last) e)
+pub place_there : (ws : Readable) (at : ℕ) (n : Numbered) (last : Span) → StandsAt ws at n → n.token.span ≡ place_in last (drop at ws.words)
+place_there ws at n last s = sym (ap (place_in last) s.is ∙ s.place)
 
-pub place_behind : (last : Span) (at : ℕ) (tokens : List Token) (text : List ℕ) (table : List (List ℕ)) → length tokens ≤ at → last ≡ place_in last (drop at (words_of text table tokens))
-place_behind last at tokens text table h =
-    let n : length (words_of text table tokens) ≡ length tokens = length-map tokens (word_of text table) in
-    sym (ap (place_in last) (drop_of_length-le (words_of text table tokens) (omega (arith, n))))
+pub place_behind : (ws : Readable) (at : ℕ) (last : Span) → drop at ws.words ≡ [] → last ≡ place_in last (drop at ws.words)
+place_behind ws at last e = sym (ap (place_in last) e)
+
+pub place_past : (ws : Readable) (at : ℕ) (last : Span) → length ws.words ≤ at → last ≡ place_in last (drop at ws.words)
+place_past ws at last h = place_behind ws at last (drop_of_length-le ws.words h)
 
 -- ---- Tokens within their text
 

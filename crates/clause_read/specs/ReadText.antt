@@ -30,14 +30,6 @@ told c.UnknownAttribute = Some r.UnknownAttribute
 told c.UnknownSegmentType = Some r.UnknownSegmentType
 told c.Undecided = None
 
--- causes in which the limits on depth play no part
-abbrev pub IsDecided : Cause → Type 0
-IsDecided c.Syntax = Unit {0}
-IsDecided c.TooDeep = ⊥
-IsDecided c.UnknownAttribute = Unit {0}
-IsDecided c.UnknownSegmentType = Unit {0}
-IsDecided c.Undecided = ⊥
-
 -- The words up to `rest` begin a module within the limits of modules, and with the first of `rest`, or the end, no module
 -- goes on, for the cause that is told.
 pub record IsTold (all rest : List Word) (cause : ReadCause) : Type 0 where

@@ -1,5 +1,5 @@
-ghost use Rattle.std.specs.Prelude.{◌≡◌, ◌≤◌, ◌<◌, ◌+◌, ◌^◌, ◌⊎◌, ℕ, List, length, drop, IfOk, IfErr};
-ghost use Rattle.erl_syntax.specs.Reading.{Reads, words_of};
+ghost use Rattle.std.specs.Prelude.{◌≡◌, ◌≤◌, ◌<◌, ◌+◌, ◌^◌, ◌⊎◌, length, drop, IfOk, IfErr};
+ghost use Rattle.erl_syntax.specs.Reading.{Reads};
 ghost use Rattle.erl_syntax.specs.Tokens.{after, place};
 ghost use Rattle.erl_syntax.specs.Characters.{is_continuation};
 ghost use Rattle.erl_syntax.specs.declared.module.Module.{Module};
@@ -9,7 +9,7 @@ ghost use Rattle.clause_read.specs.declared.read.ReadCause.TheVariants.{NoMemory
 use crate::forms::{ModuleForms, read_forms};
 use crate::numbering::number;
 use crate::second::told_of;
-use erl_syntax::{LexCause, LexFault, Listed, Module, Span, Text, Token};
+use erl_syntax::{LexCause, LexFault, Listed, Module, Span, Text};
 use erl_tokens::{longest_token, one_reading, tokens};
 use pattern_read::fault::Fault;
 use pattern_read::source::Source;
@@ -99,13 +99,15 @@ fn fault_at(at: Span, why: ReadCause) -> ReadFault
 }
 
 /// The place of the token of that index, or the end of the text.
-fn place_of(tokens: &[Token], at: usize, last: Span) -> Span
-    ensures { (text : List ℕ) (table : List (List ℕ)) → result ≡ place_in last (drop at (words_of text table tokens.now)) }
+fn place_of(source: &Source, at: usize, last: Span) -> Span
+    ensures { result ≡ place_in last (drop at source.now.words) }
 {
-    if at < tokens.len() {
-        tokens[at].span
-    } else {
-        last
+    if source.len() <= at {
+        return last;
+    }
+    match source.token(at) {
+        Some(numbered) => numbered.token.span,
+        None => last,
     }
 }
 
@@ -179,15 +181,16 @@ pub fn read_module(alloc: Global, text: &[u8]) -> Result<Module, ReadFault>
     one_reading();
     longest_token();
     let found = tokens(alloc, text)?;
-    let (numbered, atoms) = number(alloc, text, found.as_slice())?;
-    let source = Source::of(text.to_vec(alloc)?, numbered);
+    let numbering = number(alloc, text, found.as_slice())?;
+    let atoms = numbering.atoms.names(alloc)?;
+    let source = Source::of(text.to_vec(alloc)?, numbering.strings, numbering.read);
     let last = end_of(text);
     match read_forms(alloc, &source) {
         Ok(forms) => Ok(module_of(forms, atoms, last)),
         Err(Fault::Memory) => Err(fault_at(Span { line: 1, column: 1 }, ReadCause::NoMemory)),
         Err(Fault::Refused(at, why)) => {
-            let place = place_of(found.as_slice(), at, last);
-            Err(fault_at(place, told_of(alloc, source, at, why, found.len())))
+            let place = place_of(&source, at, last);
+            Err(fault_at(place, told_of(alloc, source, at, why)))
         }
     }
 }

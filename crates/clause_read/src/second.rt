@@ -2,7 +2,7 @@ ghost use Rattle.std.specs.Prelude.{◌≡◌, ◌<◌, ◌+◌, ◌^◌, ◌⊎
 ghost use Rattle.erl_syntax.specs.Grammar.{strict};
 ghost use Rattle.pattern_read.specs.Reading.{IsRefused};
 ghost use Rattle.pattern_read.specs.declared.fault.Cause.TheVariants.{Undecided};
-ghost use Rattle.clause_read.specs.ReadText.{IsTold, told, IsDecided};
+ghost use Rattle.clause_read.specs.ReadText.{IsTold, told};
 ghost use Rattle.clause_read.specs.WantedForms.{anything, forms_in};
 ghost use Rattle.clause_read.specs.declared.read.ReadCause.TheVariants.{NoMemory, TooDeep};
 
@@ -12,15 +12,16 @@ use pattern_read::fault::{Cause, Fault};
 use pattern_read::source::Source;
 use std::alloc::Global;
 
-/// A refused token's cause as it is told, if the limits on depth play no part in it. If they do, that memory ran out.
+/// A refused token's cause as it is told. If it is open, that memory ran out.
 fn decided(cause: Cause) -> ReadCause
-    ensures { (result ≡ NoMemory) ⊎ (IsDecided cause × (told cause ≡ Some result)) }
+    ensures { (result ≡ NoMemory) ⊎ (told cause ≡ Some result) }
 {
     match cause {
         Cause::Syntax => ReadCause::Syntax,
+        Cause::TooDeep => ReadCause::TooDeep,
         Cause::UnknownAttribute => ReadCause::UnknownAttribute,
         Cause::UnknownSegmentType => ReadCause::UnknownSegmentType,
-        Cause::TooDeep | Cause::Undecided => ReadCause::NoMemory,
+        Cause::Undecided => ReadCause::NoMemory,
     }
 }
 
@@ -46,15 +47,16 @@ fn count_to(at: usize, count: usize) -> usize
 /// So the tokens up to it are read again, however deep. They were read within the limits but for the one reading that was cut
 /// off, so this reading goes no deeper than about twice the limits (which isn't proved).
 ///
-/// A second reading that is cut off too would be of a tree of 2^32 levels, and there is no text that ends in the place of
-/// such a token and is a module past the limits. Neither is proved to be so, and the answer is then that memory ran out.
-fn read_again(alloc: Global, source: Source, at: usize, count: usize) -> ReadCause
+/// Two things are not proved, and in place of each the answer is that memory ran out: that this reading doesn't leave the cause
+/// open too (that would take trees or brackets of 2^32 levels), and that no text which ends where the cause is open is a module
+/// past the limits.
+fn read_again(alloc: Global, source: Source, at: usize) -> ReadCause
     requires short { length source.words < 2 ^ 32 }
     requires limits { source.limits ≡ strict }
-    requires count { count ≡ length source.words }
     requires open_ { IsRefused strict anything forms_in source.words (drop at source.words) Undecided }
     ensures { (result ≡ NoMemory) ⊎ IsTold source.words (drop at source.words) result }
 {
+    let count = source.len();
     let front = source.front(count_to(at, count));
     match read_forms(alloc, &front) {
         Ok(_) => behind(at, count),
@@ -69,23 +71,15 @@ fn read_again(alloc: Global, source: Source, at: usize, count: usize) -> ReadCau
     }
 }
 
-/// The cause that is told of the token of that index, of so many, with which no module goes on.
-pub(crate) fn told_of(
-    alloc: Global,
-    source: Source,
-    at: usize,
-    why: Cause,
-    count: usize,
-) -> ReadCause
+/// The cause that is told of the token of that index, with which no module goes on.
+pub(crate) fn told_of(alloc: Global, source: Source, at: usize, why: Cause) -> ReadCause
     requires short { length source.words < 2 ^ 32 }
     requires limits { source.limits ≡ strict }
-    requires count { count ≡ length source.words }
     requires refused { IsRefused strict anything forms_in source.words (drop at source.words) why }
     ensures { (result ≡ NoMemory) ⊎ IsTold source.words (drop at source.words) result }
 {
     match why {
-        Cause::TooDeep => ReadCause::TooDeep,
-        Cause::Undecided => read_again(alloc, source, at, count),
+        Cause::Undecided => read_again(alloc, source, at),
         cause => decided(cause),
     }
 }

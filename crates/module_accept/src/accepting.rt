@@ -1,6 +1,6 @@
-ghost use Rattle.std.specs.Prelude.{◌≡◌, ◌⊎◌, ◌<◌, ◌++◌, [], ℕ, List, IfOk, IfErr, length, slice_index_or};
+ghost use Rattle.std.specs.Prelude.{◌≡◌, ◌⊎◌, ◌++◌, ℕ, List, IfOk, IfErr};
 ghost use Rattle.erl_syntax.specs.Atoms.{fixed_atoms};
-ghost use Rattle.erl_syntax.specs.Reading.{Reads, number_in};
+ghost use Rattle.erl_syntax.specs.Reading.{Reads, StandOnce};
 ghost use Rattle.erl_syntax.specs.Checking.{IsFirstFault};
 ghost use Rattle.erl_syntax.specs.declared.module.Module.{Module};
 ghost use Rattle.erl_syntax.specs.declared.checking.CheckCause.TheVariants as c;
@@ -76,7 +76,7 @@ pub fn accept(alloc: Global, text: &[u8]) -> Result<Checked, Refusal>
     ensures accepted { IfOk result (λ checked. Accepts text.now checked.tree) }
     ensures only { IfOk result (λ checked. (other : Module) → Reads text.now other → other ≡ checked.tree) }
     ensures fixed { IfOk result (λ checked. (more : List (List ℕ)) × (checked.tree.atoms ≡ fixed_atoms ++ more)) }
-    ensures once { IfOk result (λ checked. (i : ℕ) → i < length checked.tree.atoms → number_in checked.tree.atoms (slice_index_or checked.tree.atoms i []) ≡ i) }
+    ensures once { IfOk result (λ checked. StandOnce checked.tree.atoms) }
     ensures refused { IfErr result (λ refusal. Refuses text.now refusal) }
     ensures none { IfErr result (λ refusal. (refusal ≡ Refusal.Memory) ⊎ ((m : Module) → Accepts text.now m → ⊥)) }
 {

@@ -88,6 +88,22 @@ fn bit_expressions_are_accepted(rt: HostRuntime) -> Result<(), Fail> {
 }
 
 #[test]
+fn strings_that_follow_one_another_are_accepted(rt: HostRuntime) -> Result<(), Fail> {
+    let rows = [
+        "main() -> \"ab\" \"c\".",
+        "main() -> \"ab\"\"c\"\"\".",
+        "main() -> \"a\" % one\n\"b\"\n\n  \"c\".",
+        "main() -> \"ab\" \"c\" = \"abc\".",
+        "main() -> <<$a, a, \"bc\" \"d\">>.",
+        "main() -> <<$a, \"bc\" \"d\">> = <<\"abcd\">>.",
+        "main() -> <<\"ab\" \"c\":16/little>>.",
+        "main() -> f(\"a\" \"b\").\nf(\"a\" \"b\") -> ok.",
+        "main() when \"a\" \"b\" == [$a, $b] -> ok.",
+    ];
+    accepted(&rt, rt.alloc(), &rows)
+}
+
+#[test]
 fn calls_are_accepted(rt: HostRuntime) -> Result<(), Fail> {
     let rows = [
         "main() -> main().",

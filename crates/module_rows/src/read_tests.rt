@@ -114,6 +114,21 @@ fn calls_and_macros_end_where_none_goes_on(rt: HostRuntime) -> Result<(), Fail> 
 }
 
 #[test]
+fn strings_that_follow_one_another_stand_at_the_first(rt: HostRuntime) -> Result<(), Fail> {
+    let rows = [
+        ("-module(\"a\" \"b\").", "1:9: syntax"),
+        ("main() -> \"a\" \"b\" 5.", "1:19: syntax"),
+        ("main() -> \"a\"\n%one\n\"b\" 5.", "3:5: syntax"),
+        ("main() -> f(\"a\") \"b\" \"c\".", "1:18: syntax"),
+        ("main() -> X\n\"b\"\n\"c\".", "2:1: syntax"),
+        ("main() -> \"a\" 'b' \"c\".", "1:15: syntax"),
+        ("main() -> \"a\" \"b\"", "1:18: syntax"),
+        ("main() -> \"a\" \"b.", "1:15: unclosed quote"),
+    ];
+    texts_say(&rt, rt.alloc(), &rows)
+}
+
+#[test]
 fn segments_end_where_none_goes_on(rt: HostRuntime) -> Result<(), Fail> {
     let rows = [
         ("main() -> <<1,>>.", "1:15: syntax"),

@@ -247,6 +247,10 @@ fn constructions_have_other_values(rt: HostRuntime) -> Result<(), Fail> {
         ],
     )?;
     let rows = [
+        (
+            "main() -> <<\"a\"\n\"b\"/binary>>.",
+            "3:13: string as binary",
+        ),
         ("main() -> <<(\"ab\")/binary>>.", "3:13: string as binary"),
         ("main() -> <<((\"ab\")):1/bits>>.", "3:13: string as binary"),
         ("main() -> <<0, (1):3/utf8>>.", "3:16: size on utf"),

@@ -302,6 +302,42 @@ fn each_pattern_is_read(rt: HostRuntime) -> Result<(), Fail> {
 }
 
 #[test]
+fn strings_that_follow_one_another_are_one(rt: HostRuntime) -> Result<(), Fail> {
+    let alloc = rt.alloc();
+    body(
+        &rt,
+        alloc,
+        "\"ab\" \"c\"",
+        "[Item { patterns: [] }, value: Str { chars: [97, 98, 99] } } }] }",
+    )?;
+    body(
+        &rt,
+        alloc,
+        "\"a\" % one\n\"\" \"b\"\n\t\"cd\"\"\", 7",
+        "[Item { patterns: [] }, value: Str { chars: [97, 98, 99, 100] } } }, Item { patterns: [] }, value: Int { at: Span { line: 3, column: 10 }, value: 7 } }] }",
+    )?;
+    body(
+        &rt,
+        alloc,
+        "\"a\" \"b\" = \"ab\", [\"a\", \"b\" \"c\"]",
+        "[Item { patterns: [Str { chars: [97, 98] } }] }, value: Str { chars: [97, 98] } } }, Item { patterns: [] }, value: List { items: [Str { chars: [97] } }, Str { chars: [98, 99] } }] }, tail: [] } } }] }",
+    )?;
+    body(
+        &rt,
+        alloc,
+        "<<$a, a, \"bc\" \"d\">>",
+        "[Item { patterns: [] }, value: Bits { segments: [Segment { value: Char { value: 97 }, size: None, specs: [] } }, Segment { value: Atom { atom: 16 }, size: None, specs: [] } }, Segment { value: Str { chars: [98, 99, 100] } }, size: None, specs: [] } }] } } }] }",
+    )?;
+    body(
+        &rt,
+        alloc,
+        "<<$a, \"bc\" \"d\">> = <<\"abcd\">>",
+        "[Item { patterns: [Bits { segments: [Segment { value: Char { value: 97 }, size: None, specs: [] } }, Segment { value: Str { chars: [98, 99, 100] } }, size: None, specs: [] } }] } }] }, value: Bits { segments: [Segment { value: Str { chars: [97, 98, 99, 100] } }, size: None, specs: [] } }] } } }] }",
+    )?;
+    Ok(())
+}
+
+#[test]
 fn a_chain_too_many_is_too_deep(rt: HostRuntime) -> Result<(), Fail> {
     let alloc = rt.alloc();
     let mut text = String::from_str(alloc, "main() -> 1")?;

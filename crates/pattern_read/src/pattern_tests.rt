@@ -21,8 +21,9 @@ fn a_pattern_is_read_up_to_its_end(rt: HostRuntime) -> Result<(), Fail> {
             value: 8,
         })?;
     }
-    assert!(rt; are_sound(text.as_slice(), read.as_slice()));
-    let source = Source::of(text, read);
+    let strings = Vec::new(alloc);
+    assert!(rt; are_sound(text.as_slice(), strings.as_slice(), read.as_slice()));
+    let source = Source::of(text, strings, read);
     let Ok((read, next)) = pattern(alloc, &source, 0, 1, 1) else {
         assert!(rt; false);
         return Ok(());
@@ -49,8 +50,9 @@ fn an_unknown_word_of_a_type_is_refused(rt: HostRuntime) -> Result<(), Fail> {
             value: 0,
         })?;
     }
-    assert!(rt; are_sound(text.as_slice(), read.as_slice()));
-    let source = Source::of(text, read);
+    let strings = Vec::new(alloc);
+    assert!(rt; are_sound(text.as_slice(), strings.as_slice(), read.as_slice()));
+    let source = Source::of(text, strings, read);
     let Err(fault) = pattern(alloc, &source, 0, 1, 1) else {
         assert!(rt; false);
         return Ok(());

@@ -1,4 +1,4 @@
-ghost use Rattle.std.specs.Prelude.{◌≡◌, ◌≤◌, ◌<◌, ◌+◌, ◌^◌, ◌↔◌, ◌∷◌, [], List, length, drop, take, pos, false, IsTrue, IfOk, IfSome, OnSome, MatchOption};
+ghost use Rattle.std.specs.Prelude.{◌≡◌, ◌≢◌, ◌≤◌, ◌<◌, ◌+◌, ◌^◌, ◌↔◌, ◌∷◌, [], List, length, drop, take, pos, false, IsTrue, IfOk, IfSome, OnSome, MatchOption};
 ghost use Rattle.std.specs.Prelude.{All};
 ghost use Rattle.pattern_read.specs.Source.{StandsAt, IsSound, words, limits_of, characters_of};
 ghost use Rattle.erl_syntax.specs.Grammar.{strict};
@@ -10,7 +10,7 @@ ghost use Rattle.erl_syntax.specs.declared.token.TokenKind.TheVariants as k;
 use crate::fault::{Cause, Fault};
 use crate::operators::begins_size;
 use erl_syntax::{Listed, Text, Token, TokenKind};
-use erl_tokens::{atom_text, string_characters};
+use erl_tokens::atom_text;
 use std::alloc::{AllocError, Global};
 use std::marker::Model;
 
@@ -28,6 +28,8 @@ const NO_LIMIT: usize = 1 << 32;
 #[derive(Debug, Drop)]
 pub struct Source {
     text: Vec<u8>,
+    /// The characters of each string.
+    strings: Vec<Listed<u32>>,
     tokens: Vec<Numbered>,
     /// How deep a tree may be.
     trees: usize,
@@ -35,11 +37,11 @@ pub struct Source {
     brackets: usize,
 }
 
-/// A token with the number that it stands for.
+/// A token with the number that it stands for. Strings that follow one another are one, with the first one's token.
 #[derive(Clone, Copy, Debug, PartialEq, Eq)]
 pub struct Numbered {
     pub token: Token,
-    /// An atom's number among the module's atoms, or the number of a character.
+    /// An atom's number among the module's atoms, the number of a character, or a string's number among the strings.
     pub number: u32,
     /// The value of an integer.
     pub value: u128,
@@ -54,21 +56,35 @@ impl Numbered {
         self.value as i128
     }
 
-    /// Whether the value is below 2^127 and the token stands in the text.
-    fn is_sound(&self, text: &[u8]) -> bool
-        ensures { IsTrue result ↔ IsSound text.now self.now }
+    /// Whether a string's number is below that of the strings.
+    fn is_known(&self, strings: usize) -> bool
+        ensures { IsTrue result ↔ (self.now.token.kind ≡ k.Str → self.now.number < strings) }
+    {
+        match self.token.kind {
+            TokenKind::Str => (self.number as usize) < strings,
+            _ => true,
+        }
+    }
+
+    /// Whether the value is below 2^127, the token stands in the text, and a string has its characters.
+    fn is_sound(&self, text: &[u8], strings: &[Listed<u32>]) -> bool
+        ensures { IsTrue result ↔ IsSound text.now strings.now self.now }
     {
         self.value < 1 << 127
             && self.token.from <= self.token.to
             && self.token.to as usize <= text.len()
+            && self.is_known(strings.len())
     }
 }
 
-/// Whether tokens are those of a text, as `Source::of` asks: each stands in it, and its value is below 2^127.
-pub fn are_sound(text: &[u8], tokens: &[Numbered]) -> bool
-    ensures { IsTrue result ↔ All (IsSound text.now) tokens.now }
+/// Whether tokens are those of a text with the characters of its strings, as `Source::of` asks: each stands in the text, its
+/// value is below 2^127, and a string's number is below that of the strings.
+pub fn are_sound(text: &[u8], strings: &[Listed<u32>], tokens: &[Numbered]) -> bool
+    ensures { IsTrue result ↔ All (IsSound text.now strings.now) tokens.now }
 {
-    tokens.iter().all(|numbered| numbered.is_sound(text))
+    tokens
+        .iter()
+        .all(|numbered| numbered.is_sound(text, strings))
 }
 
 impl Model for Source {
@@ -77,19 +93,20 @@ impl Model for Source {
 
     ghost Value = { Readable };
 
-    ghost view = { λ source. record { words = words source.text.items source.tokens.items; limits = limits_of source.trees source.brackets } };
+    ghost view = { λ source. record { words = words source.text.items source.strings.items source.tokens.items; limits = limits_of source.trees source.brackets } };
 
-    ghost invariant = { λ source. All (IsSound source.text.items) source.tokens.items × (256 ≤ source.trees) × (source.trees ≤ 2 ^ 32) × (64 ≤ source.brackets) × (source.brackets ≤ 2 ^ 32) };
+    ghost invariant = { λ source. All (IsSound source.text.items source.strings.items) source.tokens.items × (256 ≤ source.trees) × (source.trees ≤ 2 ^ 32) × (64 ≤ source.brackets) × (source.brackets ≤ 2 ^ 32) };
 }
 
 impl Source {
-    /// A text with its tokens, to be read within the limits of modules. Takes no memory.
-    pub fn of(text: Vec<u8>, tokens: Vec<Numbered>) -> Source
-        requires { All (IsSound text.items) tokens.items }
-        ensures { result ≡ record { words = words text.items tokens.items; limits = strict } }
+    /// A text with the characters of its strings and its tokens, to be read within the limits of modules. Takes no memory.
+    pub fn of(text: Vec<u8>, strings: Vec<Listed<u32>>, tokens: Vec<Numbered>) -> Source
+        requires { All (IsSound text.items strings.items) tokens.items }
+        ensures { result ≡ record { words = words text.items strings.items tokens.items; limits = strict } }
     {
         Source {
             text,
+            strings,
             tokens,
             trees: DEEPEST_TREE,
             brackets: MOST_BRACKETS,
@@ -105,6 +122,7 @@ impl Source {
         tokens.truncate(count);
         Source {
             text: self.text,
+            strings: self.strings,
             tokens,
             trees: NO_LIMIT,
             brackets: NO_LIMIT,
@@ -127,6 +145,13 @@ impl Source {
         ensures bounded { self.now.limits.brackets ≤ 2 ^ 32 }
     {
         self.brackets
+    }
+
+    /// How many tokens there are.
+    pub fn len(&self) -> usize
+        ensures { result ≡ length self.now.words }
+    {
+        self.tokens.len()
     }
 
     /// The token of that index.
@@ -227,14 +252,17 @@ impl Source {
         requires { at < length self.now.words }
         ensures { IfOk result (λ chars. (w : Word) (rest : List Word) → drop at self.now.words ≡ w ∷ rest → w.kind ≡ k.Str → chars ≡ w.chars) }
     {
-        let chars = string_characters(alloc, self.bytes(at))?;
-        Ok(Listed::of(chars))
+        let number = self.tokens[at].number as usize;
+        match self.strings.get(number) {
+            Some(chars) => Ok(Listed::of(chars.items().to_vec(alloc)?)),
+            None => Ok(Listed::of(Vec::new(alloc))),
+        }
     }
 
-    /// The bytes of the token that stands there.
+    /// The bytes of the token that stands there, which is not a string's.
     fn bytes(&self, at: usize) -> &[u8]
         requires { at < length self.now.words }
-        ensures { (w : Word) (rest : List Word) → drop at self.now.words ≡ w ∷ rest → w.chars ≡ characters_of w.kind result.now }
+        ensures { (w : Word) (rest : List Word) → drop at self.now.words ≡ w ∷ rest → w.kind ≢ k.Str → w.chars ≡ characters_of w.kind result.now }
     {
         let token = self.tokens[at].token;
         &self.text[token.from as usize..token.to as usize]

@@ -35,8 +35,9 @@ fn a_size_is_read_up_to_its_end(rt: HostRuntime) -> Result<(), Fail> {
         token(TokenKind::Minus, 8, 9, 0),
     ]
     .to_vec(alloc)?;
-    assert!(rt; are_sound(text.as_slice(), tokens.as_slice()));
-    let source = Source::of(text, tokens);
+    let strings = Vec::new(alloc);
+    assert!(rt; are_sound(text.as_slice(), strings.as_slice(), tokens.as_slice()));
+    let source = Source::of(text, strings, tokens);
     let Ok((read, next)) = size_level(alloc, &source, 0, 0, 1, 1) else {
         assert!(rt; false);
         return Ok(());
@@ -58,8 +59,9 @@ fn a_bracket_too_many_is_too_deep(rt: HostRuntime) -> Result<(), Fail> {
     let alloc = rt.alloc();
     let text = b"(".to_vec(alloc)?;
     let tokens = [token(TokenKind::LeftParen, 0, 1, 0)].to_vec(alloc)?;
-    assert!(rt; are_sound(text.as_slice(), tokens.as_slice()));
-    let source = Source::of(text, tokens);
+    let strings = Vec::new(alloc);
+    assert!(rt; are_sound(text.as_slice(), strings.as_slice(), tokens.as_slice()));
+    let source = Source::of(text, strings, tokens);
     let Err(fault) = size_level(alloc, &source, 0, 0, 1, 64) else {
         assert!(rt; false);
         return Ok(());

@@ -5,4 +5,4 @@ pub returns-clause-fixed : goal.returns-clause-fixed
 returns-clause-fixed c = λ text tokens. atoms_longer text tokens
 
 pub returns-clause-once : goal.returns-clause-once
-returns-clause-once c = λ text tokens i h. atoms_once text tokens i h
+returns-clause-once c = λ text tokens. atoms_once text tokens

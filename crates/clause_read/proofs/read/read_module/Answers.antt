@@ -34,7 +34,7 @@ read_forms-requires-clause-short c =
     let f : Fronts = λ cut bs kind n e. let m = c.longest_token.ensures.itself cut bs kind n e in (m.0, m.1) in
     let P : List Token → Type 0 = λ ts. Lexes c.args.text.now ts None in
     let d : Lexes c.args.text.now T None = subst P (sym c.as_slice.ensures.value) c.in_ok-found.ensures.tokens in
-    let w : c.of-source.result.words ≡ words_of c.args.text.now (atoms_of c.args.text.now T) T = source_words c.args.text.now c.in_ok-to_vec.field-0.items T c.in_ok-numbered.numbered.items c.of-source.result.words (ap (λ v. v.words) c.of-source.ensures) (c.in_ok-to_vec.ensures.items_if_clones_equal (search rules)) c.in_ok-numbered.ensures.words in
+    let w : c.of-source.result.words ≡ words_of c.args.text.now (atoms_of c.args.text.now T) T = source_words c.args.text.now c.in_ok-to_vec.field-0.items T c.in_ok-numbering.numbering.strings.items c.in_ok-numbering.numbering.read.items c.of-source.result.words (ap (λ v. v.words) c.of-source.ensures) (c.in_ok-to_vec.ensures.items_if_clones_equal (search rules)) c.in_ok-numbering.ensures.words in
     source_short c.args.text.now T c.of-source.result.words (2 ^ 32) w (omega (arith, h, few_tokens f c.args.text.now T None d))
 
 pub told_of-requires-clause-short : goal.told_of-requires-clause-short
@@ -44,7 +44,7 @@ told_of-requires-clause-short c =
     let f : Fronts = λ cut bs kind n e. let m = c.longest_token.ensures.itself cut bs kind n e in (m.0, m.1) in
     let P : List Token → Type 0 = λ ts. Lexes c.args.text.now ts None in
     let d : Lexes c.args.text.now T None = subst P (sym c.as_slice.ensures.value) c.in_ok-found.ensures.tokens in
-    let w : c.of-source.result.words ≡ words_of c.args.text.now (atoms_of c.args.text.now T) T = source_words c.args.text.now c.in_ok-to_vec.field-0.items T c.in_ok-numbered.numbered.items c.of-source.result.words (ap (λ v. v.words) c.of-source.ensures) (c.in_ok-to_vec.ensures.items_if_clones_equal (search rules)) c.in_ok-numbered.ensures.words in
+    let w : c.of-source.result.words ≡ words_of c.args.text.now (atoms_of c.args.text.now T) T = source_words c.args.text.now c.in_ok-to_vec.field-0.items T c.in_ok-numbering.numbering.strings.items c.in_ok-numbering.numbering.read.items c.of-source.result.words (ap (λ v. v.words) c.of-source.ensures) (c.in_ok-to_vec.ensures.items_if_clones_equal (search rules)) c.in_ok-numbering.ensures.words in
     source_short c.args.text.now T c.of-source.result.words (2 ^ 32) w (omega (arith, h, few_tokens f c.args.text.now T None d))
 
 pub returns-in-Ok-clause-module : goal.returns-in-Ok-clause-module
@@ -53,8 +53,8 @@ returns-in-Ok-clause-module c =
     let h : length c.args.text.now ≤ longest_text = search rules in
     let P : List Token → Type 0 = λ ts. Lexes c.args.text.now ts None in
     let d : Lexes c.args.text.now T None = subst P (sym c.as_slice.ensures.value) c.in_ok-found.ensures.tokens in
-    let w : c.of-source.result.words ≡ words_of c.args.text.now (atoms_of c.args.text.now T) T = source_words c.args.text.now c.in_ok-to_vec.field-0.items T c.in_ok-numbered.numbered.items c.of-source.result.words (ap (λ v. v.words) c.of-source.ensures) (c.in_ok-to_vec.ensures.items_if_clones_equal (search rules)) c.in_ok-numbered.ensures.words in
-    module_read c.args.text.now T c.of-source.result.words c.in_ok-numbered.atoms c.in-Ok.forms c.end_of-last.result c.module_of.result h d c.in_ok-numbered.ensures.atoms w (forms_strict c.of-source.result c.in-Ok.forms (ap (λ v. v.limits) c.of-source.ensures) c.in-Ok.ensures) c.end_of-last.ensures c.module_of.ensures
+    let w : c.of-source.result.words ≡ words_of c.args.text.now (atoms_of c.args.text.now T) T = source_words c.args.text.now c.in_ok-to_vec.field-0.items T c.in_ok-numbering.numbering.strings.items c.in_ok-numbering.numbering.read.items c.of-source.result.words (ap (λ v. v.words) c.of-source.ensures) (c.in_ok-to_vec.ensures.items_if_clones_equal (search rules)) c.in_ok-numbering.ensures.words in
+    module_read c.args.text.now T c.of-source.result.words c.in_ok-atoms.atoms c.in-Ok.forms c.end_of-last.result c.module_of.result h d (c.in_ok-atoms.ensures ∙ c.in_ok-numbering.ensures.atoms) w (forms_strict c.of-source.result c.in-Ok.forms (ap (λ v. v.limits) c.of-source.ensures) c.in-Ok.ensures) c.end_of-last.ensures c.module_of.ensures
 
 pub returns-in-Ok-clause-only : goal.returns-in-Ok-clause-only
 returns-in-Ok-clause-only c =
@@ -62,8 +62,8 @@ returns-in-Ok-clause-only c =
     let h : length c.args.text.now ≤ longest_text = search rules in
     let P : List Token → Type 0 = λ ts. Lexes c.args.text.now ts None in
     let d : Lexes c.args.text.now T None = subst P (sym c.as_slice.ensures.value) c.in_ok-found.ensures.tokens in
-    let w : c.of-source.result.words ≡ words_of c.args.text.now (atoms_of c.args.text.now T) T = source_words c.args.text.now c.in_ok-to_vec.field-0.items T c.in_ok-numbered.numbered.items c.of-source.result.words (ap (λ v. v.words) c.of-source.ensures) (c.in_ok-to_vec.ensures.items_if_clones_equal (search rules)) c.in_ok-numbered.ensures.words in
-    module_only c.one_reading.ensures c.args.text.now T c.of-source.result.words c.in_ok-numbered.atoms c.in-Ok.forms c.end_of-last.result c.module_of.result d c.in_ok-numbered.ensures.atoms w (forms_strict c.of-source.result c.in-Ok.forms (ap (λ v. v.limits) c.of-source.ensures) c.in-Ok.ensures) c.end_of-last.ensures c.module_of.ensures
+    let w : c.of-source.result.words ≡ words_of c.args.text.now (atoms_of c.args.text.now T) T = source_words c.args.text.now c.in_ok-to_vec.field-0.items T c.in_ok-numbering.numbering.strings.items c.in_ok-numbering.numbering.read.items c.of-source.result.words (ap (λ v. v.words) c.of-source.ensures) (c.in_ok-to_vec.ensures.items_if_clones_equal (search rules)) c.in_ok-numbering.ensures.words in
+    module_only c.one_reading.ensures c.args.text.now T c.of-source.result.words c.in_ok-atoms.atoms c.in-Ok.forms c.end_of-last.result c.module_of.result d (c.in_ok-atoms.ensures ∙ c.in_ok-numbering.ensures.atoms) w (forms_strict c.of-source.result c.in-Ok.forms (ap (λ v. v.limits) c.of-source.ensures) c.in-Ok.ensures) c.end_of-last.ensures c.module_of.ensures
 
 pub returns-clause-fault : goal.returns-clause-fault
 returns-clause-fault c =
@@ -71,9 +71,9 @@ returns-clause-fault c =
     let h : length c.args.text.now ≤ longest_text = search rules in
     let P : List Token → Type 0 = λ ts. Lexes c.args.text.now ts None in
     let d : Lexes c.args.text.now T None = subst P (sym c.as_slice.ensures.value) c.in_ok-found.ensures.tokens in
-    let w : c.of-source.result.words ≡ words_of c.args.text.now (atoms_of c.args.text.now T) T = source_words c.args.text.now c.in_ok-to_vec.field-0.items T c.in_ok-numbered.numbered.items c.of-source.result.words (ap (λ v. v.words) c.of-source.ensures) (c.in_ok-to_vec.ensures.items_if_clones_equal (search rules)) c.in_ok-numbered.ensures.words in
+    let w : c.of-source.result.words ≡ words_of c.args.text.now (atoms_of c.args.text.now T) T = source_words c.args.text.now c.in_ok-to_vec.field-0.items T c.in_ok-numbering.numbering.strings.items c.in_ok-numbering.numbering.read.items c.of-source.result.words (ap (λ v. v.words) c.of-source.ensures) (c.in_ok-to_vec.ensures.items_if_clones_equal (search rules)) c.in_ok-numbering.ensures.words in
     let at : ℕ = c.in-Err-Refused.at in
-    let p = refused_place c.args.text.now T c.as_slice-in-Err-Refused.result.now c.of-source.result.words at c.end_of-last.result c.place_of-place.result w (c.as_slice-in-Err-Refused.ensures.value ∙ sym c.as_slice.ensures.value) (c.place_of-place.ensures c.args.text.now (atoms_of c.args.text.now T)) c.end_of-last.ensures in
+    let p = refused_place c.args.text.now c.of-source.result.words at c.end_of-last.result c.place_of-place.result c.place_of-place.ensures c.end_of-last.ensures in
     word_fault c.args.text.now T c.of-source.result.words (drop at c.of-source.result.words) c.told_of.result c.place_of-place.result c.fault_at-in-Err-Refused.result h d w c.told_of.ensures p c.fault_at-in-Err-Refused.ensures
 
 pub returns-clause-none : goal.returns-clause-none
@@ -82,7 +82,7 @@ returns-clause-none c =
     let h : length c.args.text.now ≤ longest_text = search rules in
     let P : List Token → Type 0 = λ ts. Lexes c.args.text.now ts None in
     let d : Lexes c.args.text.now T None = subst P (sym c.as_slice.ensures.value) c.in_ok-found.ensures.tokens in
-    let w : c.of-source.result.words ≡ words_of c.args.text.now (atoms_of c.args.text.now T) T = source_words c.args.text.now c.in_ok-to_vec.field-0.items T c.in_ok-numbered.numbered.items c.of-source.result.words (ap (λ v. v.words) c.of-source.ensures) (c.in_ok-to_vec.ensures.items_if_clones_equal (search rules)) c.in_ok-numbered.ensures.words in
+    let w : c.of-source.result.words ≡ words_of c.args.text.now (atoms_of c.args.text.now T) T = source_words c.args.text.now c.in_ok-to_vec.field-0.items T c.in_ok-numbering.numbering.strings.items c.in_ok-numbering.numbering.read.items c.of-source.result.words (ap (λ v. v.words) c.of-source.ensures) (c.in_ok-to_vec.ensures.items_if_clones_equal (search rules)) c.in_ok-numbering.ensures.words in
     let Q : Fault → Type 0 = λ e. ReadsForms c.of-source.result (Err e) in
     let g = subst Q c.in-Err-Refused.field-0-is c.in-Err-Refused.ensures in
     inr (word_none c.one_reading.ensures c.args.text.now T c.of-source.result.words (drop c.in-Err-Refused.at c.of-source.result.words) c.in-Err-Refused.why d w (refused_strict c.of-source.result c.in-Err-Refused.at c.in-Err-Refused.why (ap (λ v. v.limits) c.of-source.ensures) g))

@@ -1,5 +1,5 @@
-use Rattle.std.proofs.Common.{ℕ, List, [], ◌≡◌, ◌<◌, ◌∙◌, ap, length, slice_index_or, inl, inr, sym, subst}
-use Rattle.erl_syntax.specs.Reading.{Reads, number_in}
+use Rattle.std.proofs.Common.{◌∙◌, ap, inl, inr, sym, subst}
+use Rattle.erl_syntax.specs.Reading.{Reads, StandOnce}
 use Rattle.erl_syntax.specs.Checking.{IsAccepted}
 use Rattle.erl_syntax.specs.declared.module.Module.{Module}
 use Rattle.module_accept.proofs.accepting.accept.Goals as goal
@@ -31,5 +31,4 @@ returns-in-Ok-check-clause-fixed c =
 pub returns-in-Ok-check-clause-once : goal.returns-in-Ok-check-clause-once
 returns-in-Ok-check-clause-once c =
     let reads : Reads c.args.text.now c.in-Ok.module = c.in-Ok.ensures.module in
-    let P : List (List ℕ) → Type 0 = λ atoms. (i : ℕ) → i < length atoms → number_in atoms (slice_index_or atoms i []) ≡ i in
-    subst P (sym (ap (λ m. let t : Module = m in t.atoms) c.in-Ok-check.ensures.accepted ∙ reads.atoms)) (c.atoms_stand_once.ensures.once c.args.text.now reads.tokens)
+    subst StandOnce (sym (ap (λ m. let t : Module = m in t.atoms) c.in-Ok-check.ensures.accepted ∙ reads.atoms)) (c.atoms_stand_once.ensures.once c.args.text.now reads.tokens)

@@ -4,4 +4,4 @@ use Rattle.pattern_read.proofs.Words.{front_words}
 use Rattle.pattern_read.proofs.source.Source.front.Goals as goal
 
 pub returns : goal.returns
-returns c = ap {B = Readable} (λ v. record { words = v; limits = limits_of (2 ^ 32) (2 ^ 32) }) (front_words c.self.inside.text.items c.self.inside.tokens.items _ c.args.self c.args.count (ap (λ v. v.words) c.self.view_is) c.truncate.ensures.items)
+returns c = ap {B = Readable} (λ v. record { words = v; limits = limits_of (2 ^ 32) (2 ^ 32) }) (front_words c.self.inside.text.items c.self.inside.strings.items c.self.inside.tokens.items _ c.args.self c.args.count (ap (λ v. v.words) c.self.view_is) c.truncate.ensures.items)

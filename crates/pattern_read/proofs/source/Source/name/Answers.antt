@@ -3,4 +3,4 @@ use Rattle.pattern_read.proofs.Words.{name_is}
 use Rattle.pattern_read.proofs.source.Source.name.Goals as goal
 
 pub returns : goal.returns
-returns c = λ w rest a b. let e : c.of.result ≡ c.bytes.result.now = search rules in e ∙ name_is w c.bytes.result.now (c.bytes.ensures w rest a) b
+returns c = λ w rest a b. let e : c.of.result ≡ c.bytes.result.now = search rules in e ∙ name_is w c.bytes.result.now (c.bytes.ensures w rest a (λ n. cc)) b
