@@ -1,7 +1,6 @@
 -- What the steps of reading a tree find (this project's own): they serve the contracts of private functions.
-use Rattle.std.specs.Prelude.{◌≡◌, ℕ, pos, ◌≤◌, List, [], ◌∷◌, ◌++◌, length, map, codes, cond, nat_eq, All, None}
+use Rattle.std.specs.Prelude.{◌≡◌, ℕ, pos, ◌≤◌, List, [], ◌∷◌, ◌++◌, length, codes, cond, nat_eq, All}
 use Rattle.erl_syntax.specs.Checking.{Spelled}
-use Rattle.erl_syntax.specs.Tokens.{Lexes, token_text}
 use Rattle.erl_syntax.specs.declared.span.Span.{Span}
 use Rattle.erl_syntax.specs.declared.token.Token.{Token}
 use Rattle.erl_syntax.specs.declared.expr.Expr.{Expr}
@@ -13,11 +12,10 @@ use Rattle.erl_syntax.specs.declared.module.Name.{Name}
 use Rattle.erl_syntax.specs.declared.module.Function.{Function}
 use Rattle.erl_syntax.specs.declared.module.Clause.{Clause}
 use Rattle.first_form.specs.Form.{IsField, IsPart}
-use Rattle.first_form.specs.TreeOf.{IsInteger, AreFieldsOf, IsItemOf, AreItemsOf, words_of}
+use Rattle.first_form.specs.TreeOf.{IsInteger, AreFieldsOf, IsItemOf, AreItemsOf}
 use Rattle.first_form.specs.declared.form.Field.{Field}
 use Rattle.first_form.specs.declared.form.Item.{Item}
 use Rattle.first_form.specs.declared.form.Item.TheVariants as item
-use Rattle.first_form.specs.declared.form.Straight.{Straight}
 
 -- an integer in a range
 pub record IsInRange (e : Expr) (low high n : ℕ) : Type 0 where
@@ -78,9 +76,3 @@ IsWithin text t = (t.from ≤ t.to) × (t.to ≤ length text)
 -- what stands before the word at this index
 abbrev pub comma_before : ℕ → List (List ℕ)
 comma_before at = cond (nat_eq at 0) [] (codes "," ∷ [])
-
--- the tokens of the text are the module's words
-pub record HasWords (text : List ℕ) (straight : Straight) : Type 0 where
-  pub tokens : List Token
-  pub lexes : Lexes text tokens None
-  pub words : map (token_text text) tokens ≡ words_of straight

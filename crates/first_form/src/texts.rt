@@ -1,8 +1,9 @@
 // Whether a text has the words of a module.
 ghost use Rattle.std.specs.Prelude.{◌≡◌, ◌≤◌, ◌↔◌, ℕ, List, length, map, All, IfOk, MatchBool, IsTrue};
 ghost use Rattle.erl_syntax.specs.Tokens.{token_text};
-ghost use Rattle.first_form.specs.TreeOf.{words_of};
-ghost use Rattle.first_form.specs.Walk.{IsWithin, HasWords};
+ghost use Rattle.first_form.specs.Form.{IsStraight};
+ghost use Rattle.first_form.specs.TreeOf.{IsForm, words_of};
+ghost use Rattle.first_form.specs.Walk.{IsWithin};
 
 use crate::form::Straight;
 use crate::words::words_of;
@@ -29,7 +30,7 @@ fn are_words(text: &[u8], tokens: &[Token], words: &[Text]) -> bool
 // Whether a text has the words of a module.
 pub(crate) fn has_words(alloc: Global, text: &[u8], straight: &Straight) -> Result<bool, AllocError>
     requires { length text.now ≤ 1048576 }
-    ensures told { IfOk result (λ has. MatchBool has (HasWords text.now straight.now) (HasWords text.now straight.now → ⊥)) }
+    ensures told { IfOk result (λ has. IsStraight straight.now → MatchBool has (IsForm text.now straight.now) (IsForm text.now straight.now → ⊥)) }
     ensures few { IfOk result (λ has. IsTrue has → length (words_of straight.now) ≤ length text.now) }
 {
     one_reading();
