@@ -4,10 +4,11 @@ use Rattle.erl_syntax.specs.declared.expr.Op.TheVariants as o
 use Rattle.term_value.specs.Value.{Value, VAtom, VTuple, VList, VBits, none, more, row}
 use Rattle.erl_syntax.specs.Atoms.{a_badarg, a_badmatch, a_bad_generator, a_bad_filter, a_if_clause, a_case_clause, a_system_limit, a_reductions, a_undef, a_true, a_false, a_ok}
 use Rattle.erl_syntax.specs.declared.built_in.BuiltIn.TheVariants.{SelfPid}
+use Rattle.term_value.specs.Result.{Limit}
 use Rattle.term_value.specs.Step.{Show}
 use Rattle.term_value.specs.Tree.{Build, Operate, Native, MakeTuple, MakeList, MakeListOn, Table, Call, Send, Display, Spawn, Variable, Equal, Tree, Val, Var, All, First, Choose, Receive, Gather, Items, Bits, Trees, end, and, Then, Last, Alts, AndAlso, OrElse, Clauses, no_clause, clause, Guard, never, or, give, from, test, InList, InBits, bottom, Pattern, PWild, PVar, PVal, PTuple, Patterns, no_pattern, pattern_and, Segments, no_segment, segment, Function, Module}
-use Rattle.term_value.specs.Local.{Local, At, Outcome, Wants, EndsDone, EndsRaised, ask_of}
-use Rattle.term_value.specs.Machine.{Normal, Exit as Exited, Waiting, Process, Left, Machine, start_of, IsLegal, IsComplete, after}
+use Rattle.term_value.specs.Local.{Local, At, Fell, Outcome, Wants, EndsDone, EndsRaised, ask_of}
+use Rattle.term_value.specs.Machine.{Normal, Exit as Exited, Waiting, Process, Running, Left, Machine, start_of, apply, IsLegal, IsComplete, after}
 use Rattle.term_value.specs.Orders.{order_text}
 use Rattle.term_value.specs.Reports.{report}
 use Rattle.term_value.specs.Worked.{int, number, atom, binary, byte, no_size, table, a_m, a_main, a_a, a_b, a_c, a_s}
@@ -265,3 +266,14 @@ DisplayOrder = order_text its_order ≡ codes "shown 1\nended 1\ngone 1 0 0 0\n"
 -- pids count from 1
 abbrev pub NoPidZero : Type 0
 NoPidZero = IsLegal displaying (e.Shown 0 ∷ []) → ⊥
+
+-- process 1 at `receive 1 -> spawn(m, s, []) end`, which has seen 1, with 10 reductions
+abbrev pub at_spawn : Local
+at_spawn = record { pid = 1; course = At (Receive (body (one_pattern (PVal (int 1))) (All Spawn (and (atom a_m) (two (atom a_s) (All (Table MakeList) end)))))); seen = int 1 ∷ []; left = 10 }
+
+abbrev pub alone : Local → Machine
+alone l = record { code = program (atom a_ok) []; reductions = 10; processes = Running l [] ∷ []; shown = [] }
+
+-- where all processes have been started, the message is taken and the reduction paid before the limit
+abbrev pub FullContracts : Type 0
+FullContracts = apply (alone at_spawn) (e.Full 1) ≡ alone (record { pid = 1; course = Fell Limit; seen = []; left = 9 })
