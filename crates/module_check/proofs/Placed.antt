@@ -21,7 +21,7 @@ use Rattle.erl_syntax.specs.declared.clause.Alt.{Alt}
 use Rattle.erl_syntax.specs.declared.clause.Branch.{Branch}
 use Rattle.erl_syntax.specs.declared.module.Function.{Function}
 use Rattle.erl_syntax.specs.declared.typing.SideUse.{SideUse}
-use Rattle.module_check.specs.declared.scopes.Node.{Node}
+use Rattle.module_check.specs.declared.trees.Node.{Node}
 use Rattle.module_check.specs.declared.places.Occurrence.{Occurrence}
 use Rattle.module_check.specs.declared.tasks.Task.{Task}
 use Rattle.module_check.specs.declared.tasks.Walk.{Walk}

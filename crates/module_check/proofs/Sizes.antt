@@ -19,7 +19,7 @@ use Rattle.erl_syntax.specs.declared.typing.SideUse.TheVariants as side
 use Rattle.module_check.specs.Spots.{Spot, spot, each, expr_in, exprs_in, same_in, tests_in, guard_in, pattern_in, patterns_in, matched_in, item_in, items_in, built_in_turn, segment_in, alt_layer_in, alt_in, branch_layer_in, branch_in, qual_layer_in, qual_in, quals_in, comprehension_in, expr_layer_in, inside_expr, pattern_layer_in, inside_pattern, size_scope, inside_segment, inside}
 use Rattle.erl_syntax.specs.declared.expr.Expr.TheFolds.{fold-Expr, fold-Pattern, fold-Qual, fold-Alt, fold-Branch, fold-Guard, fold-Item, fold-Segment, fold-roll-Expr, fold-roll-Pattern, fold-roll-Qual, fold_out-Alt, fold_out-Branch, fold_out-Guard, fold_out-Item, fold_out-Segment}
 use Rattle.erl_syntax.specs.declared.segment.Spec.{Spec}
-use Rattle.module_check.specs.declared.scopes.Node.{Node}
+use Rattle.module_check.specs.declared.trees.Node.{Node}
 use Rattle.module_check.specs.declared.tasks.Task.{Task}
 use Rattle.module_check.specs.declared.tasks.Walk.{Walk}
 use Rattle.module_check.specs.Tasks.{part_of, Fits, AllFit, Adds}

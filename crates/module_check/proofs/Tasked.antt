@@ -13,7 +13,7 @@ use Rattle.std.proofs.lemmas.List.{take_more, take_all, drop_more}
 use Rattle.std.proofs.lemmas.Grind.{flat_map-append}
 use Rattle.erl_syntax.specs.Scopes.{Danger}
 use Rattle.erl_syntax.specs.Bindings.{vars_of}
-use Rattle.module_check.specs.declared.scopes.Node.{Node}
+use Rattle.module_check.specs.declared.trees.Node.{Node}
 use Rattle.module_check.specs.declared.tasks.Setting.{Setting}
 use Rattle.module_check.specs.declared.tasks.Task.{Task}
 use Rattle.module_check.specs.declared.tasks.Walk.{Walk}

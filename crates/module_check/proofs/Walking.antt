@@ -8,7 +8,7 @@ use Rattle.erl_syntax.specs.declared.module.Module.{Module}
 use Rattle.erl_syntax.specs.declared.module.Function.{Function}
 use Rattle.erl_syntax.specs.declared.checking.CheckCause.{CheckCause}
 use Rattle.erl_syntax.specs.declared.checking.CheckFault.{CheckFault}
-use Rattle.module_check.specs.declared.scopes.Node.{Node}
+use Rattle.module_check.specs.declared.trees.Node.{Node}
 use Rattle.module_check.specs.declared.tasks.Task.{Task}
 use Rattle.module_check.specs.declared.tasks.Walk.{Walk}
 use Rattle.module_check.specs.Order.{NotAfter, IsFirstOf, IsLeast, Either}

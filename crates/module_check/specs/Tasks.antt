@@ -6,7 +6,7 @@ use Rattle.erl_syntax.specs.declared.qual.Qual.{Qual}
 use Rattle.erl_syntax.specs.Scopes
 use Rattle.erl_syntax.specs.Scopes.{Scope, AnExpr, APattern, ABody, ASegment}
 use Rattle.erl_syntax.specs.declared.typing.SideUse.TheVariants as side
-use Rattle.module_check.specs.declared.scopes.Node.{Node}
+use Rattle.module_check.specs.declared.trees.Node.{Node}
 use Rattle.module_check.specs.declared.tasks.Part.{Part}
 use Rattle.module_check.specs.declared.tasks.Part.TheVariants as t
 use Rattle.module_check.specs.declared.tasks.Setting.{Setting}

@@ -11,8 +11,8 @@ ghost use Rattle.module_check.specs.Spots.{Spot};
 ghost use Rattle.module_check.specs.Tasks.{Means, Fits};
 ghost use Rattle.module_check.specs.Places.{seen, IsOnly, Reads, Meets, ExprPlace, PatternPlace, ValuePlace, SegmentPlace, OwnPlace, InnerPlace, AreAll};
 
-use crate::scopes::{Node, find};
 use crate::tasks::{Part, Setting, Task, Walk};
+use crate::trees::{Node, find};
 use erl_syntax::{Expr, Function, Pattern, Segment, SideUse, Span};
 use std::alloc::{AllocError, Global};
 

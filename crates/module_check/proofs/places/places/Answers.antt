@@ -1,5 +1,5 @@
 use Rattle.std.proofs.Common.{arith, sym, refl, subst, List}
-use Rattle.module_check.specs.declared.scopes.Node.{Node}
+use Rattle.module_check.specs.declared.trees.Node.{Node}
 use Rattle.module_check.specs.declared.tasks.Walk.{Walk}
 use Rattle.module_check.specs.Tasks.{Fits}
 use Rattle.module_check.proofs.Calling.{none_at_all}

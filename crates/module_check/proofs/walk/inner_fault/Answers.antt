@@ -1,7 +1,7 @@
 use Rattle.module_check.proofs.Calling.{none_at_all}
 use Rattle.std.proofs.Common.{arith, sym, refl, List}
 use Rattle.std.proofs.Common.{subst}
-use Rattle.module_check.specs.declared.scopes.Node.{Node}
+use Rattle.module_check.specs.declared.trees.Node.{Node}
 use Rattle.module_check.specs.Tasks.{Fits}
 use Rattle.module_check.specs.declared.tasks.Walk.{Walk}
 use Rattle.module_check.proofs.Walking.{start, step, finish}
