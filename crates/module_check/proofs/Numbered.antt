@@ -12,7 +12,7 @@ use Rattle.std.proofs.lemmas.List.{append-nil, append_assoc, map-append, length-
 use Rattle.std.proofs.lemmas.List.Elements.{All-nil, All-cons, Contains-append_right, Contains-append_cases}
 use Rattle.std.proofs.lemmas.List.Sorted.{searchable_from_sorted}
 use Rattle.std.proofs.lemmas.Map.Keys.{sorted_head, sorted_tail, Less-from_sorted}
-use Rattle.erl_syntax.specs.Checking.{IsBefore, Place, IsPlace, Rising, Binders, binds, repeats, IsUse, Uses, IsNumbered, AreNumbered}
+use Rattle.erl_syntax.specs.Checking.{IsBefore, Place, IsPlace, RisingBy, Binders, binds, repeats, IsUse, Uses, IsNumbered, AreNumbered}
 use Rattle.erl_syntax.specs.declared.span.Span.{Span}
 use Rattle.erl_syntax.specs.declared.module.Function.{Function}
 use Rattle.erl_syntax.specs.declared.checking.VarUse.{VarUse}
@@ -88,7 +88,7 @@ first_later o os s a = later o os (sorted_head occurrence_cmp o os s) (λ y i. a
 apart_tail : (o : Occurrence) (os : List Occurrence) → Apart (o ∷ os) → Apart os
 apart_tail o os a = λ x y i k. a x y (Contains-tail o os x i) (Contains-tail o os y k)
 
-rising : (os : List Occurrence) → IsStrictlySortedBy occurrence_cmp os → Apart os → Rising (map seen os)
+rising : (os : List Occurrence) → IsStrictlySortedBy occurrence_cmp os → Apart os → RisingBy (λ a. a.at) (map seen os)
 rising [] s a = tt
 rising (o ∷ os) s a = (all_before o os (first_later o os s a), rising os (sorted_tail occurrence_cmp o os s) (apart_tail o os a))
 
@@ -127,10 +127,10 @@ binders_are (o ∷ os) =
 
 -- a search among places that rise
 module _ (bs : List Position) (b : Position) where
-  abbrev pub IsNumber : ℕ → Type 0
-  IsNumber n = (n < length bs) × (get_or bs n b ≡ b)
+  abbrev pub IsIndex : ℕ → Type 0
+  IsIndex n = (n < length bs) × (get_or bs n b ≡ b)
 
-  pub searched_ok : (i : ℕ) → i < length bs → ((d : Position) → position_cmp (get_or bs i d) b ≡ Equal) → IsNumber i
+  pub searched_ok : (i : ℕ) → i < length bs → ((d : Position) → position_cmp (get_or bs i d) b ≡ Equal) → IsIndex i
   searched_ok i l h = (l, tied_position (get_or bs i b) b (h b))
 
   unlike : (o : Ordering) → (o ≡ Equal → ⊥) → (x : Position) → x ≡ b → position_cmp x b ≡ o → ⊥
@@ -150,15 +150,17 @@ module _ (bs : List Position) (b : Position) where
       ]
 
 -- what a variable's number says
-pub use_is : (bs : List Position) (o : Occurrence) (u : VarUse) → IsNumber bs o.bound_at u.number → u.binds ≡ same_position o.at o.bound_at → IsUse (map span_of bs) (seen o) u
+pub use_is : (bs : List Position) (o : Occurrence) (u : VarUse) → IsIndex bs o.bound_at u.number → u.binds ≡ same_position o.at o.bound_at → IsUse (map span_of bs) (seen o) u
 use_is bs o u n e =
     let i = u.number in
     let cut : bs ≡ take i bs ++ o.bound_at ∷ drop (suc i) bs = split_at bs i o.bound_at n.0 ∙ ap (λ z. take i bs ++ z ∷ drop (suc i) bs) n.1 in
     record {
-      front = map span_of (take i bs);
-      back = map span_of (drop (suc i) bs);
-      stands = ap (map span_of) cut ∙ map-append span_of (take i bs) (o.bound_at ∷ drop (suc i) bs);
-      number = sym (length-map (take i bs) span_of ∙ length-take-le i bs (omega (arith, n.0)));
+      number = record {
+        front = map span_of (take i bs);
+        back = map span_of (drop (suc i) bs);
+        stands = ap (map span_of) cut ∙ map-append span_of (take i bs) (o.bound_at ∷ drop (suc i) bs);
+        count = sym (length-map (take i bs) span_of ∙ length-take-le i bs (omega (arith, n.0)));
+      };
       binds = (λ t. ap span_of (position_is o.at o.bound_at (sym e ∙ t)), λ k. e ∙ position_same o.at o.bound_at (ap position_of k));
     }
 
@@ -213,11 +215,13 @@ module _ (f : Function) (found os : List Occurrence) (all : AreAll (InnerPlace f
   numbered_by : (us : List VarUse) → IsStrictlySortedBy occurrence_cmp os → Uses (map span_of (binders_in os)) (map seen os) us → IsNumbered f us
   numbered_by us s u = record {
     places = map seen os;
-    rising = rising os s apart;
-    stand = all_places os is_place;
-    whole = λ a h. in_map os (kept a) (has_place a h);
     bound = map span_of (binders_in os);
-    binders = binders_are os;
+    has = record {
+      rising = rising os s apart;
+      stand = all_places os is_place;
+      whole = λ a h. in_map os (kept a) (has_place a h);
+      binders = binders_are os;
+    };
     uses_of = u;
   }
 
