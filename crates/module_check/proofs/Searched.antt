@@ -1,11 +1,11 @@
 -- Names in their order, and what is found of them in a tree.
-use Rattle.std.proofs.Common.{◌≡◌, ℕ, List, [], ◌∷◌, ◌++◌, refl, sym, ◌∙◌, ap, subst, ◌⊎◌, inl, inr, Ordering, Less, Equal, Greater, true, false}
+use Rattle.std.proofs.Common.{◌≡◌, ℕ, List, [], ◌∷◌, ◌++◌, refl, sym, ◌∙◌, ap, subst, ◌⊎◌, inl, inr, Less, Equal, Greater}
 use Rattle.std.specs.List.{Contains}
-use Rattle.std.specs.Ordering.{nat_cmp, ordering_reverse, is_lt}
+use Rattle.std.specs.Ordering.{nat_cmp, ordering_reverse}
 use Rattle.std.specs.Cmp.Lexicographic.{slice_cmp}
 use Rattle.std.proofs.lemmas.Cmp.{nat_list_cmp_total, tied_itself}
 use Rattle.std.proofs.lemmas.Map.Lookups.{exact_bytes}
-use Rattle.std.proofs.lemmas.List.{append_assoc, append-nil, map-append}
+use Rattle.std.proofs.lemmas.List.{append_assoc, map-append}
 use Rattle.std.proofs.lemmas.List.Elements.{Contains-append_cases, Contains-append_left, Contains-append_right}
 use Rattle.erl_syntax.specs.Bindings.{Bound, names}
 use Rattle.erl_syntax.specs.Scopes.{Found, IsKnown}
@@ -14,7 +14,7 @@ use Rattle.module_check.specs.declared.trees.Node.{Node}
 use Rattle.module_check.specs.Nodes.{Tree, none, Forks, IsLess, Rising, Agree, Chain, Grown, named}
 use Rattle.module_check.proofs.Forked.{tree_grown}
 use Rattle.module_check.proofs.Spots.{Contains-head, Contains-tail, none_in, only_one}
-use Rattle.module_check.proofs.Chained.{flip, itself, chained, found_known, found_left, found_right, same_known, agree_joined, agree_known, agree_unknown}
+use Rattle.module_check.proofs.Chained.{flip, itself, chained, found_left, found_right, same_known, agree_joined, agree_known, agree_unknown}
 
 -- the order of names
 pub is_greater : (a b : List ℕ) → slice_cmp nat_cmp a b ≡ Greater → IsLess b a
@@ -72,14 +72,16 @@ part (l ∷ ls) x rs h =
 pub joins : (ls : List Bound) (x : Bound) (rs : List Bound) → Parted ls x rs → Rising (ls ++ x ∷ rs)
 joins [] x rs p = (p.behind, p.rights)
 joins (l ∷ ls) x rs p =
-    let first : IsLess l.name x.name = p.before l.name (Contains-head l.name (names ls)) in
-    ((λ n k. elim (known_joined ls (x ∷ rs) n k) [
-      | inl i ↦ p.lefts.0 n i
-      | inr i ↦ elim (Contains-append_cases (x.name ∷ []) (names rs) n i) [
-        | inl j ↦ (let P : List ℕ → Type 0 = λ v. IsLess l.name v in subst P (only_one x.name n j) first)
-        | inr j ↦ nat_list_cmp_total.trans l.name x.name n first (p.behind n j)
-      ]
-    ]), joins ls x rs (record { before = λ n k. p.before n (Contains-tail l.name (names ls) n k); behind = p.behind; lefts = p.lefts.1; rights = p.rights }))
+    let first : IsLess l.name x.name = p.before l.name (Contains-head l.name (names ls)) in (
+      (λ n k. elim (known_joined ls (x ∷ rs) n k) [
+        | inl i ↦ p.lefts.0 n i
+        | inr i ↦ elim (Contains-append_cases (x.name ∷ []) (names rs) n i) [
+          | inl j ↦ (let P : List ℕ → Type 0 = λ v. IsLess l.name v in subst P (only_one x.name n j) first)
+          | inr j ↦ nat_list_cmp_total.trans l.name x.name n first (p.behind n j)
+        ]
+      ]),
+      joins ls x rs (record { before = λ n k. p.before n (Contains-tail l.name (names ls) n k); behind = p.behind; lefts = p.lefts.1; rights = p.rights }),
+    )
 
 -- a name that comes before one of the list stands before it, if at all
 known_before : (ls : List Bound) (x : Bound) (rs : List Bound) (name : List ℕ) → Parted ls x rs → IsLess name x.name → IsKnown (ls ++ x ∷ rs) name → IsKnown ls name
@@ -135,25 +137,29 @@ find_here nodes last rest name n o e h bs ch =
     t.1.1.1.0 n.at (subst Q (sym f.is) (found_at f.lefts (named n) f.rights name p (sym (exact_bytes name n.name.now e))))
 
 pub leads_left : (nodes : List Node) (last rest : ℕ) (name : List ℕ) (n : Node) → ((ts : List Bound) → Tree nodes rest ts → Forks nodes n ts) → slice_cmp nat_cmp name n.name.now ≡ Less → Leads nodes last rest name → Leads nodes last n.left name
-leads_left nodes last rest name n o e h = record { leads = λ bs ch.
-    let t = h.leads bs ch in
-    let f = o t.0 t.1.0 in
-    let P : List Bound → Type 0 = λ v. Rising v in
-    let Q : List Bound → Type 0 = λ v. IsKnown v name in
-    let p = part f.lefts (named n) f.rights (subst P f.is t.1.1.0) in
-    let R : (at : Span) → List Bound → Type 0 = λ at v. Found v name at in
-    (f.lefts, (f.left, (p.lefts, ((λ at k. t.1.1.1.0 at (subst (R at) (sym f.is) (found_left f.lefts (named n ∷ f.rights) name at k))), (λ k. known_before f.lefts (named n) f.rights name p e (subst Q f.is (t.1.1.1.1 k))))))) }
+leads_left nodes last rest name n o e h = record {
+  leads = λ bs ch.
+      let t = h.leads bs ch in
+      let f = o t.0 t.1.0 in
+      let P : List Bound → Type 0 = λ v. Rising v in
+      let Q : List Bound → Type 0 = λ v. IsKnown v name in
+      let p = part f.lefts (named n) f.rights (subst P f.is t.1.1.0) in
+      let R : (at : Span) → List Bound → Type 0 = λ at v. Found v name at in
+      (f.lefts, (f.left, (p.lefts, ((λ at k. t.1.1.1.0 at (subst (R at) (sym f.is) (found_left f.lefts (named n ∷ f.rights) name at k))), (λ k. known_before f.lefts (named n) f.rights name p e (subst Q f.is (t.1.1.1.1 k)))))));
+}
 
 pub leads_right : (nodes : List Node) (last rest : ℕ) (name : List ℕ) (n : Node) → ((ts : List Bound) → Tree nodes rest ts → Forks nodes n ts) → slice_cmp nat_cmp name n.name.now ≡ Greater → Leads nodes last rest name → Leads nodes last n.right name
-leads_right nodes last rest name n o e h = record { leads = λ bs ch.
-    let t = h.leads bs ch in
-    let f = o t.0 t.1.0 in
-    let P : List Bound → Type 0 = λ v. Rising v in
-    let Q : List Bound → Type 0 = λ v. IsKnown v name in
-    let p = part f.lefts (named n) f.rights (subst P f.is t.1.1.0) in
-    let less = is_greater name n.name.now e in
-    let R : (at : Span) → List Bound → Type 0 = λ at v. Found v name at in
-    (f.rights, (f.right, (p.rights, ((λ at k. t.1.1.1.0 at (subst (R at) (sym f.is) (found_behind f.lefts (named n) f.rights name at p less k))), (λ k. known_behind f.lefts (named n) f.rights name p less (subst Q f.is (t.1.1.1.1 k))))))) }
+leads_right nodes last rest name n o e h = record {
+  leads = λ bs ch.
+      let t = h.leads bs ch in
+      let f = o t.0 t.1.0 in
+      let P : List Bound → Type 0 = λ v. Rising v in
+      let Q : List Bound → Type 0 = λ v. IsKnown v name in
+      let p = part f.lefts (named n) f.rights (subst P f.is t.1.1.0) in
+      let less = is_greater name n.name.now e in
+      let R : (at : Span) → List Bound → Type 0 = λ at v. Found v name at in
+      (f.rights, (f.right, (p.rights, ((λ at k. t.1.1.1.0 at (subst (R at) (sym f.is) (found_behind f.lefts (named n) f.rights name at p less k))), (λ k. known_behind f.lefts (named n) f.rights name p less (subst Q f.is (t.1.1.1.1 k)))))));
+}
 
 -- a name is put in front of those of a tree
 chain_put : (old new : List Node) (before top : ℕ) (b : Bound) (bs us : List Bound) (ch : Chain old before bs) → Tree new top us → Rising us → Agree (b ∷ ch.sorted) us → Chain new top (b ∷ bs)

@@ -143,6 +143,7 @@ pub(crate) fn places(alloc: Global, function: &Function) -> Result<Vec<Occurrenc
     walk.push_clauses(function)?;
     let mut found = Vec::new(alloc);
     while let Some(task) = walk.tasks.pop() {
+        walk.nodes.truncate(task.mark);
         add(&mut found, own_place(&walk.nodes, task))?;
         walk.push_inside(task)?;
     }

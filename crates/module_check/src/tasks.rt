@@ -45,6 +45,8 @@ pub(crate) struct Setting {
 pub(crate) struct Task<'a> {
     pub setting: Setting,
     pub part: Part<'a>,
+    /// How many nodes there were when the task was added: it needs none of those that are added later.
+    pub mark: usize,
 }
 
 /// What is left to look at in a function.
@@ -57,9 +59,16 @@ pub(crate) struct Walk<'a> {
 
 impl<'a> Walk<'a> {
     fn push(&mut self, setting: Setting, part: Part<'a>) -> Result<(), AllocError>
-        ensures { IfOk result (λ u. (d : Spot) → Fits self.old.nodes.items (record { setting = setting; part = part.entry }) d → Adds self.old self.new (d ∷ [])) }
+        ensures { IfOk result (λ u. (d : Spot) → Fits self.old.nodes.items (record { setting = setting; part = part.entry; mark = length self.old.nodes.items }) d → Adds self.old self.new (d ∷ [])) }
     {
-        Ok(self.tasks.push(Task { setting, part })?)
+        let mark = self.nodes.len();
+        Ok(
+            self.tasks.push(Task {
+                setting,
+                part,
+                mark,
+            })?,
+        )
     }
 
     /// The setting behind an expression.

@@ -1,4 +1,4 @@
-use Rattle.std.proofs.Common.{List, [], ◌++◌, ◌-◌, arith, sym, ap, subst, drop, get_or}
+use Rattle.std.proofs.Common.{List, [], ◌++◌, ◌-◌, arith, sym, subst, drop, get_or}
 use Rattle.std.proofs.lemmas.List.{get_or_default}
 use Rattle.erl_syntax.specs.Bindings.{Bound}
 use Rattle.module_check.specs.declared.scopes.Target.{Target}
