@@ -1,18 +1,19 @@
 -- Scopes that share their ends.
-use Rattle.std.proofs.Common.{◌≡◌, ℕ, suc, ◌+◌, ◌-◌, ◌<◌, ◌≤◌, Bool, true, false, List, [], ◌∷◌, ◌++◌, length, get_or, refl, sym, ◌∙◌, ap, subst, ◌⊎◌, inl, inr, arith, take, drop, min}
+use Rattle.std.proofs.Common.{◌≡◌, ℕ, ◌+◌, ◌<◌, ◌≤◌, Bool, true, false, List, [], ◌∷◌, ◌++◌, length, get_or, refl, sym, ◌∙◌, ap, subst, ◌⊎◌, inl, inr, take, drop}
 use Rattle.std.specs.List.{Contains}
 use Rattle.std.specs.Str.{bytes_eq}
-use Rattle.std.proofs.lemmas.List.{append_assoc, append-nil, map-append, length-append, get_or_append_left, get_or_at, get_or_default, take_more, take_all, drop_more}
+use Rattle.std.proofs.lemmas.List.{append_assoc, append-nil, map-append, take_more, take_all, drop_more}
 use Rattle.std.proofs.lemmas.List.Elements.{Contains-append_cases, Contains-append_left, Contains-append_right, Contains-push}
 use Rattle.std.proofs.lemmas.Slice.Eq.{bytes_eq-Decides}
 use Rattle.erl_syntax.specs.Bindings.{Bound, names}
 use Rattle.erl_syntax.specs.Scopes.{Danger, Found, IsKnown, IsUnsafe}
 use Rattle.erl_syntax.specs.declared.span.Span.{Span}
-use Rattle.module_check.specs.declared.scopes.Node.{Node}
+use Rattle.module_check.specs.declared.trees.Node.{Node}
 use Rattle.module_check.specs.declared.scopes.Target.{Target}
-use Rattle.module_check.specs.Nodes.{Chain, none, more, Agree, Sees, SeesUnsafe, Grown, bound_of, bounds_of}
+use Rattle.module_check.specs.Nodes.{Chain, none, Agree, Sees, SeesUnsafe, Grown, bound_of, bounds_of}
 use Rattle.module_check.proofs.Spots.{Contains-head, Contains-tail, none_in, only_one}
 use Rattle.module_check.proofs.Standing.{found_place, known_found}
+use Rattle.module_check.proofs.Forked.{tree_grown}
 
 -- what is found is known, at one place
 pub found_known : (bs : List Bound) (name : List ℕ) (at : Span) → Found bs name at → IsKnown bs name
@@ -110,12 +111,10 @@ agree_unknown bs b k = record {
 
 -- nodes that are added change no chain
 pub chain_grown : (old new : List Node) → Grown old new → (k : ℕ) (bs : List Bound) → Chain old k bs → Chain new k bs
-chain_grown old new g _ _ none = none
-chain_grown old new g _ _ (more k n bs l e b h) =
-    more k n bs
-    (let P : List Node → Type 0 = λ zs. k < length zs in subst P (sym g.is) (simp length-append (omega arith)))
-    (ap (λ zs. get_or zs k n) g.is ∙ get_or_append_left old g.more n k l ∙ e)
-    b (chain_grown old new g n.before bs h)
+chain_grown old new g k bs h = record { sorted = h.sorted; tree = tree_grown old new g k h.sorted h.tree; rising = h.rising; same = h.same }
+
+pub chain_none : (nodes : List Node) → Chain nodes 0 []
+chain_none nodes = record { sorted = []; tree = none; rising = tt; same = itself [] }
 
 pub grown_twice : (a b c : List Node) → Grown a b → Grown b c → Grown a c
 grown_twice a b c g h = record { more = g.more ++ h.more; is = h.is ∙ ap (λ zs. zs ++ h.more) g.is ∙ append_assoc a g.more h.more }
@@ -128,76 +127,6 @@ sees_grown old new g k bs h = record { chain = h.chain; stands = chain_grown old
 
 pub unsafe_grown : (old new : List Node) → Grown old new → (k : ℕ) (ds : List Danger) → SeesUnsafe old k ds → SeesUnsafe new k ds
 unsafe_grown old new g k ds h = record { chain = h.chain; stands = chain_grown old new g k h.chain h.stands; to = h.to; from = h.from }
-
-pub within : (nodes : List Node) (k : ℕ) (bs : List Bound) → Chain nodes k bs → k ≤ length nodes
-within nodes _ _ none = omega arith
-within nodes _ _ (more k n bs l e b h) = omega (arith, l)
-
-pub pushed : (old new : List Node) (k last : ℕ) (n : Node) (bs : List Bound) → new ≡ old ++ n ∷ [] → last ≡ length new → n.before ≡ k → Chain old k bs → Chain new last (record { name = n.name.now; at = n.at } ∷ bs)
-pushed old new k last n bs e l b h =
-    let size : length new ≡ length old + 1 = (let P : List Node → Type 0 = λ zs. length zs ≡ length old + 1 in subst P (sym e) (simp length-append (omega arith))) in
-    let Q : ℕ → Type 0 = λ m. Chain new m (record { name = n.name.now; at = n.at } ∷ bs) in
-    let R : ℕ → Type 0 = λ m. Chain new m bs in
-    let which : suc (length old) ≡ last = omega arith in
-    subst Q which (more (length old) n bs (omega arith) (ap (λ zs. get_or zs (length old) n) e ∙ get_or_at old n [] n (length old) refl)
-    (let w = within old k bs h in omega arith) (subst R (sym b) (chain_grown old new (record { more = n ∷ []; is = e }) k bs h)))
-
--- what is found at a node or further on
-pub record Leads (nodes : List Node) (last rest : ℕ) (name : List ℕ) : Type 0 where
-  pub leads : (bs : List Bound) → Chain nodes last bs → (cs : List Bound) × (Chain nodes rest cs × (((at : Span) → Found cs name at → Found bs name at) × (IsKnown bs name → IsKnown cs name)))
-
-pub leads_start : (nodes : List Node) (last : ℕ) (name : List ℕ) → Leads nodes last last name
-leads_start nodes last name = record { leads = λ bs h. (bs, (h, ((λ at k. k), (λ k. k)))) }
-
-chain_end : (nodes : List Node) (k : ℕ) (bs : List Bound) → k ≡ 0 → Chain nodes k bs → bs ≡ []
-chain_end nodes _ _ e none = refl
-chain_end nodes _ _ e (more k n bs l g b h) = absurd (omega (arith, e))
-
--- the node of a chain
-pub data AtNode (nodes : List Node) (k : ℕ) : List Bound → Type 0 where
-  node : (n : Node) (bs : List Bound) → k < length nodes → get_or nodes k n ≡ n → n.before ≤ k → Chain nodes n.before bs → AtNode nodes k (record { name = n.name.now; at = n.at } ∷ bs)
-
-opened : (nodes : List Node) (k j : ℕ) (bs : List Bound) → j ≡ suc k → Chain nodes j bs → AtNode nodes k bs
-opened nodes k _ _ e none = absurd (omega (arith, e))
-opened nodes k _ _ e (more j n bs l g b h) =
-    let q : j ≡ k = omega arith in
-    let P : ℕ → Type 0 = λ v. AtNode nodes v (record { name = n.name.now; at = n.at } ∷ bs) in
-    subst P q (node n bs l g b h)
-
-pub find_none : (nodes : List Node) (last rest : ℕ) (name : List ℕ) → rest ≡ 0 → Leads nodes last rest name → (bs : List Bound) → Chain nodes last bs → IsKnown bs name → ⊥
-find_none nodes last rest name e h bs ch k =
-    let t = h.leads bs ch in
-    let z = chain_end nodes rest t.0 e t.1.0 in
-    let P : List Bound → Type 0 = λ v. IsKnown v name in
-    none_in name (subst P z (t.1.1.1 k))
-
-pub find_outside : (nodes : List Node) (last rest : ℕ) (name : List ℕ) → 0 < rest → length nodes ≤ rest - 1 → Leads nodes last rest name → (bs : List Bound) → Chain nodes last bs → IsKnown bs name → ⊥
-find_outside nodes last rest name p o h bs ch k =
-    let t = h.leads bs ch in
-    let w = within nodes rest t.0 t.1.0 in
-    absurd (omega arith)
-
-pub find_here : (nodes : List Node) (last rest : ℕ) (name : List ℕ) (n : Node) → 0 < rest → n ≡ get_or nodes (rest - 1) n → n.name.now ≡ name → Leads nodes last rest name → (bs : List Bound) → Chain nodes last bs → Found bs name n.at
-find_here nodes last rest name n p e q h bs ch =
-    let t = h.leads bs ch in
-    t.1.1.0 n.at (at_node t.0 (opened nodes (rest - 1) rest t.0 (omega arith) t.1.0))
-  where
-    at_node : (cs : List Bound) → AtNode nodes (rest - 1) cs → Found cs name n.at
-    at_node _ (node o cs l g b k) =
-        let s : o ≡ n = sym g ∙ get_or_default nodes (rest - 1) o n l ∙ sym e in
-        inl (ap (λ (z : Node). z.name.now) s ∙ q, ap (λ (z : Node). z.at) s)
-
-pub leads_on : (nodes : List Node) (last rest next : ℕ) (name : List ℕ) (n : Node) → 0 < rest → n ≡ get_or nodes (rest - 1) n → (n.name.now ≡ name → ⊥) → next ≡ min n.before (rest - 1) → Leads nodes last rest name → Leads nodes last next name
-leads_on nodes last rest next name n p e q m h = record { leads = λ bs ch. (let t = h.leads bs ch in at_node bs t.0 t.1.1.0 t.1.1.1 (opened nodes (rest - 1) rest t.0 (omega arith) t.1.0)) }
-  where
-    at_node : (bs cs : List Bound) → ((at : Span) → Found cs name at → Found bs name at) → (IsKnown bs name → IsKnown cs name) → AtNode nodes (rest - 1) cs → (ds : List Bound) × (Chain nodes next ds × (((at : Span) → Found ds name at → Found bs name at) × (IsKnown bs name → IsKnown ds name)))
-    at_node bs _ to from (node o cs l g b k) =
-        let s : o ≡ n = sym g ∙ get_or_default nodes (rest - 1) o n l ∙ sym e in
-        let same : o.before ≡ n.before = ap (λ (z : Node). z.before) s in
-        let other : o.name.now ≡ name → ⊥ = λ z. q (sym (ap (λ (z : Node). z.name.now) s) ∙ z) in
-        let which : o.before ≡ next = omega arith in
-        let P : ℕ → Type 0 = λ v. Chain nodes v cs in
-        (cs, (subst P which k, ((λ at z. to at (inr (other, z))), (λ z. elim (Contains-append_cases (o.name.now ∷ []) (names cs) name (from z)) [ inl i ↦ absurd (other (only_one o.name.now name i)) | inr i ↦ i ]))))
 
 -- what is unsafe behind a part
 one_danger : (ds : List Danger) (d : Danger) (name : List ℕ) → Contains d.left_unsafe name → (IsKnown d.known name → ⊥) → IsUnsafe (ds ++ d ∷ []) name

@@ -26,7 +26,7 @@ use Rattle.erl_syntax.specs.declared.typing.SegFault.TheVariants as f
 use Rattle.erl_syntax.specs.declared.checking.CheckCause.{CheckCause}
 use Rattle.erl_syntax.specs.declared.checking.CheckCause.TheVariants as c
 use Rattle.erl_syntax.specs.declared.checking.CheckFault.{CheckFault}
-use Rattle.module_check.specs.declared.scopes.Node.{Node}
+use Rattle.module_check.specs.declared.trees.Node.{Node}
 use Rattle.module_check.specs.Order.{segment_rank, rank, IsLeast, IsFirstOf, fault_if}
 use Rattle.module_check.specs.Nodes.{Chain, Sees, SeesUnsafe}
 use Rattle.module_check.specs.Faults.{UnsafeFault, ReadFault, CallFault, ExprFault, PatternFault, TargetFault, TypeFault, SegmentFault, Own}

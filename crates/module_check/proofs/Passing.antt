@@ -17,9 +17,9 @@ use Rattle.std.proofs.Common.{drop, ◌-◌}
 use Rattle.std.proofs.lemmas.Grind.{flat_map-append}
 use Rattle.erl_syntax.specs.Scopes.{Danger}
 use Rattle.erl_syntax.specs.Bindings.{vars_of, new_names, qual_unsafe}
-use Rattle.module_check.specs.declared.scopes.Node.{Node}
+use Rattle.module_check.specs.declared.trees.Node.{Node}
 use Rattle.module_check.specs.declared.tasks.Setting.{Setting}
-use Rattle.module_check.specs.Nodes.{Agree, Sees, SeesUnsafe, Grown, Chain, none}
+use Rattle.module_check.specs.Nodes.{Agree, Sees, SeesUnsafe, Grown, Chain}
 use Rattle.module_check.specs.Tasks.{Means, SeesSizes}
 use Rattle.module_check.proofs.Chained.{sees_grown, unsafe_grown, itself}
 use Rattle.std.proofs.lemmas.List.{length-drop}
@@ -27,7 +27,7 @@ use Rattle.std.proofs.lemmas.Bool.Decides.{Decides-eqb}
 use Rattle.std.proofs.Common.{nat_eq, ◌<◌}
 use Rattle.erl_syntax.specs.Bindings.{vars_of_segment}
 use Rattle.module_check.specs.Tasks.{Passes, passed, with_new, size_in}
-use Rattle.module_check.proofs.Chained.{found_left, found_right, found_joined, same_known, flip, sees_put, sees_agree, one_place_of, known_cases, same_name}
+use Rattle.module_check.proofs.Chained.{chain_none, found_left, found_right, found_joined, same_known, flip, sees_put, sees_agree, one_place_of, known_cases, same_name}
 use Rattle.module_check.proofs.Standing.{found_place, known_found, left_known}
 use Rattle.module_check.proofs.Tasked.{means_grown}
 
@@ -214,20 +214,20 @@ generated_more [] g known = refl
 generated_more (j ∷ front) g known = generated_more front g (new_names j ++ known)
 
 pub means_generate : (nodes : List Node) (t : Setting) (s : Scope) → Means nodes t s → Means nodes (record t { known = 0; sizes = t.known }) (to_generate s)
-means_generate nodes t s h = record { known = record { chain = []; stands = none; same = itself [] }; dangers = h.dangers; guarded = h.guarded }
+means_generate nodes t s h = record { known = record { chain = []; stands = chain_none nodes; same = itself [] }; dangers = h.dangers; guarded = h.guarded }
 
 pub means_size : (nodes : List Node) (t : Setting) (s : Scope) → Means nodes t s → Sees nodes t.sizes (size_scope s).known → Means nodes (record t { known = t.sizes; guarded = true }) (size_scope s)
 means_size nodes t s h k = record { known = k; dangers = h.dangers; guarded = refl }
 
 pub means_nothing : (nodes : List Node) → Means nodes (record { known = 0; sizes = 0; dangers = 0; guarded = false }) nothing_known
 means_nothing nodes = record {
-  known = record { chain = []; stands = none; same = itself [] };
-  dangers = record { chain = []; stands = none; to = λ n h. absurd (none_in n h); from = λ n h. absurd (none_in h.0 h.1.0) };
+  known = record { chain = []; stands = chain_none nodes; same = itself [] };
+  dangers = record { chain = []; stands = chain_none nodes; to = λ n h. absurd (none_in n h); from = λ n h. absurd (none_in h.0 h.1.0) };
   guarded = refl;
 }
 
 pub sees_nothing : (nodes : List Node) → Sees nodes 0 []
-sees_nothing nodes = record { chain = []; stands = none; same = itself [] }
+sees_nothing nodes = record { chain = []; stands = chain_none nodes; same = itself [] }
 
 pub each_joined : {X : Type 0} (At : List X → X → List X → List Spot) (front xs ys : List X) → ((f : List X) (y : X) (b c : List X) → At f y b ≡ At f y c) → each At front xs ++ each At (front ++ xs) ys ≡ each At front (xs ++ ys)
 each_joined At front [] ys h = ap (λ zs. each At zs ys) (append-nil front)

@@ -1,5 +1,5 @@
 -- The variables of a function, by the part to which they belong.
-use Rattle.std.proofs.Common.{◌≡◌, ℕ, ◌<◌, List, [], ◌∷◌, ◌++◌, Option, Some, None, refl, sym, ◌∙◌, ap, subst, ◌⊎◌, inl, inr}
+use Rattle.std.proofs.Common.{◌≡◌, ℕ, ◌<◌, List, [], ◌∷◌, ◌++◌, length, take, arith, Option, Some, None, refl, sym, ◌∙◌, ap, subst, ◌⊎◌, inl, inr}
 use Rattle.std.specs.List.{Contains}
 use Rattle.std.specs.Option.{option_to_list}
 use Rattle.std.proofs.lemmas.List.Elements.{Contains-append_left, Contains-append_right, Contains-append_cases, Contains-push}
@@ -21,7 +21,7 @@ use Rattle.erl_syntax.specs.declared.clause.Alt.{Alt}
 use Rattle.erl_syntax.specs.declared.clause.Branch.{Branch}
 use Rattle.erl_syntax.specs.declared.module.Function.{Function}
 use Rattle.erl_syntax.specs.declared.typing.SideUse.{SideUse}
-use Rattle.module_check.specs.declared.scopes.Node.{Node}
+use Rattle.module_check.specs.declared.trees.Node.{Node}
 use Rattle.module_check.specs.declared.places.Occurrence.{Occurrence}
 use Rattle.module_check.specs.declared.tasks.Task.{Task}
 use Rattle.module_check.specs.declared.tasks.Walk.{Walk}
@@ -33,7 +33,7 @@ use Rattle.module_check.proofs.Chained.{found_known, one_place_of, same_known, f
 use Rattle.module_check.proofs.Spots.{none_in, only_one}
 use Rattle.module_check.proofs.Complete.{one_more}
 use Rattle.module_check.proofs.Sizes.{left_over, falls_by}
-use Rattle.module_check.proofs.Tasked.{all_grown, all_joined}
+use Rattle.module_check.proofs.Tasked.{all_joined, all_from_none, all_cut}
 use Rattle.module_check.proofs.Walking.{last_of}
 
 same_place : (a : Place) (at bound_at : Span) → a.at ≡ at → a.bound_at ≡ bound_at → a ≡ record { at = at; bound_at = bound_at }
@@ -99,17 +99,25 @@ own_part s y z r e h = let P : Scopes.Part → Type 0 = λ v. IsOnly (OwnPlace s
 -- what is looked at, and what is left
 pub record Reached (f : Function) (nodes : List Node) (tasks : List Task) (found : List Occurrence) : Type 0 where
   pub spots : List Spot
-  pub fit : AllFit nodes tasks spots
+  pub fit : AllFit nodes 0 tasks spots
   pub stand : (d : Spot) → Contains spots d → IsUnder f d
   pub told : (o : Occurrence) → Contains found o → InnerPlace f (seen o)
   pub covers : (d : Spot) → IsUnder f d → ((a : Place) → OwnPlace d.scope d.part a → Contains found (kept a)) ⊎ ((e : Spot) × (Contains spots e × Under e d))
 
+-- the nodes above the mark of the last task are let go
+pub reached_cut : (f : Function) (nodes cut : List Node) (tasks rest : List Task) (task : Task) (found : List Occurrence) → tasks ≡ rest ++ task ∷ [] → cut ≡ take task.mark nodes → Reached f nodes tasks found → Reached f cut tasks found
+reached_cut f nodes cut tasks rest task found e is l =
+    let P : List Task → Type 0 = λ zs. AllFit nodes 0 zs l.spots in
+    let Q : List Task → Type 0 = λ zs. AllFit cut 0 zs l.spots in
+    let R : List Node → Type 0 = λ ns. AllFit ns 0 (rest ++ task ∷ []) l.spots in
+    record { spots = l.spots; fit = subst Q (sym e) (subst R (sym is) (all_cut nodes 0 rest task l.spots (subst P e l.fit)).0); stand = l.stand; told = l.told; covers = l.covers }
+
 pub start : (f : Function) (w v : Walk) (found : List Occurrence) → w.tasks.items ≡ [] → found ≡ [] → Adds w v (clauses_in f) → Reached f v.nodes.items v.tasks.items found
 start f w v found e none a =
-    let P : List Task → Type 0 = λ zs. AllFit v.nodes.items zs (clauses_in f) in
+    let P : List Task → Type 0 = λ zs. AllFit v.nodes.items 0 zs (clauses_in f) in
     record {
       spots = clauses_in f;
-      fit = subst P (sym (a.is ∙ ap (λ zs. zs ++ a.added) e)) a.fit;
+      fit = subst P (sym (a.is ∙ ap (λ zs. zs ++ a.added) e)) (all_from_none v.nodes.items (length w.nodes.items) a.added (clauses_in f) a.fit);
       stand = λ d h. record { root = d; among = h; under = here d d refl };
       told = λ o h. absurd (let Q : List Occurrence → Type 0 = λ zs. Contains zs o in none_in o (subst Q none h));
       covers = λ d h. inr (h.root, (h.among, h.under));
@@ -138,19 +146,19 @@ pub step : (f : Function) (w v : Walk) (old rest : List Task) (task : Task) (fou
     → ((d : Spot) → Fits w.nodes.items task d → IsOnly (OwnPlace d.scope d.part) own) → new ≡ found ++ option_to_list own → ((d : Spot) → Fits w.nodes.items task d → Adds w v (inside d.scope d.part))
     → Reached f w.nodes.items old found → Reached f v.nodes.items v.tasks.items new
 step f w v old rest task found new own e g o is adds l =
-    let P : List Task → Type 0 = λ zs. AllFit w.nodes.items zs l.spots in
-    let p = last_of w.nodes.items rest task l.spots (subst P e l.fit) in
+    let P : List Task → Type 0 = λ zs. AllFit w.nodes.items 0 zs l.spots in
+    let p = last_of w.nodes.items 0 rest task l.spots (subst P e l.fit) in
     let d0 = p.one in
     let a = adds d0 p.fits in
     let ins = inside d0.scope d0.part in
     let Q : List Spot → Type 0 = λ zs. Contains zs d0 in
     let stood : IsUnder f d0 = l.stand d0 (subst Q (sym p.is) (Contains-push p.before d0)) in
-    let R : List Task → Type 0 = λ zs. AllFit v.nodes.items zs (p.before ++ ins) in
+    let R : List Task → Type 0 = λ zs. AllFit v.nodes.items 0 zs (p.before ++ ins) in
     let only = o d0 p.fits in
     let T : List Occurrence → Type 0 = λ zs. Reached f v.nodes.items v.tasks.items zs in
     subst T (sym is) (record {
       spots = p.before ++ ins;
-      fit = subst R (sym (a.is ∙ ap (λ zs. zs ++ a.added) g)) (all_joined v.nodes.items rest a.added p.before ins (all_grown w.nodes.items v.nodes.items rest p.before a.grown p.fit) a.fit);
+      fit = subst R (sym (a.is ∙ ap (λ zs. zs ++ a.added) g)) (all_joined w.nodes.items v.nodes.items 0 rest a.added p.before ins a.grown (omega arith) p.fit a.fit);
       stand = λ d h. elim (Contains-append_cases p.before ins d h) [
         | inl k ↦ l.stand d (let S : List Spot → Type 0 = λ zs. Contains zs d in subst S (sym p.is) (Contains-append_left p.before (d0 ∷ []) d k))
         | inr k ↦ one_more f d0 d stood k
@@ -165,13 +173,13 @@ step f w v old rest task found new own e g o is adds l =
       ];
     })
 
-none_fit : (nodes : List Node) (spots : List Spot) → AllFit nodes [] spots → spots ≡ []
+none_fit : (nodes : List Node) (spots : List Spot) → AllFit nodes 0 [] spots → spots ≡ []
 none_fit nodes [] h = refl
 none_fit nodes (d ∷ ds) h = absurd h
 
 pub finish : (f : Function) (nodes : List Node) (tasks : List Task) (found : List Occurrence) → tasks ≡ [] → Reached f nodes tasks found → AreAll (InnerPlace f) found
 finish f nodes tasks found e l =
-    let P : List Task → Type 0 = λ zs. AllFit nodes zs l.spots in
+    let P : List Task → Type 0 = λ zs. AllFit nodes 0 zs l.spots in
     let none = none_fit nodes l.spots (subst P e l.fit) in
     record {
       hold = l.told;

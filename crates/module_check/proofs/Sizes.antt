@@ -1,5 +1,5 @@
 -- How much is left to look at: how many parts there are.
-use Rattle.std.proofs.Common.{◌≡◌, ℕ, ◌+◌, ◌<◌, ◌≤◌, List, [], ◌∷◌, ◌++◌, map, reverse, Option, Some, None, refl, ◌∙◌, ap, subst, inl, inr, arith}
+use Rattle.std.proofs.Common.{◌≡◌, ℕ, ◌+◌, ◌<◌, ◌≤◌, List, [], ◌∷◌, ◌++◌, length, map, reverse, Option, Some, None, refl, ◌∙◌, ap, subst, inl, inr, arith}
 use Rattle.std.proofs.lemmas.List.{reverse-append, map-append}
 use Rattle.erl_syntax.specs.Bindings.{targets}
 use Rattle.erl_syntax.specs.Scopes.{Scope, Part, AnExpr, APattern, ABody, ASegment, with_known, behind, in_guard, to_generate, past_items, generated, past_quals, past_row}
@@ -19,7 +19,7 @@ use Rattle.erl_syntax.specs.declared.typing.SideUse.TheVariants as side
 use Rattle.module_check.specs.Spots.{Spot, spot, each, expr_in, exprs_in, same_in, tests_in, guard_in, pattern_in, patterns_in, matched_in, item_in, items_in, built_in_turn, segment_in, alt_layer_in, alt_in, branch_layer_in, branch_in, qual_layer_in, qual_in, quals_in, comprehension_in, expr_layer_in, inside_expr, pattern_layer_in, inside_pattern, size_scope, inside_segment, inside}
 use Rattle.erl_syntax.specs.declared.expr.Expr.TheFolds.{fold-Expr, fold-Pattern, fold-Qual, fold-Alt, fold-Branch, fold-Guard, fold-Item, fold-Segment, fold-roll-Expr, fold-roll-Pattern, fold-roll-Qual, fold_out-Alt, fold_out-Branch, fold_out-Guard, fold_out-Item, fold_out-Segment}
 use Rattle.erl_syntax.specs.declared.segment.Spec.{Spec}
-use Rattle.module_check.specs.declared.scopes.Node.{Node}
+use Rattle.module_check.specs.declared.trees.Node.{Node}
 use Rattle.module_check.specs.declared.tasks.Task.{Task}
 use Rattle.module_check.specs.declared.tasks.Walk.{Walk}
 use Rattle.module_check.specs.Tasks.{part_of, Fits, AllFit, Adds}
@@ -301,22 +301,22 @@ left_joined : (ts us : List Task) → left_over (ts ++ us) ≡ left_over ts + le
 left_joined [] us = omega arith
 left_joined (t ∷ ts) us = (let h = left_joined ts us in omega (arith, h))
 
-left_total : (nodes : List Node) (ts : List Task) (ds : List Spot) → AllFit nodes ts ds → left_over ts ≡ total ds
-left_total nodes [] [] h = refl
-left_total nodes [] (d ∷ ds) h = absurd h
-left_total nodes (t ∷ ts) [] h = absurd h
-left_total nodes (t ∷ ts) (d ∷ ds) h = (let a = left_total nodes ts ds h.1 in let b = ap size_of_part h.0.part in omega (arith, a, b))
+left_total : (nodes : List Node) (least : ℕ) (ts : List Task) (ds : List Spot) → AllFit nodes least ts ds → left_over ts ≡ total ds
+left_total nodes least [] [] h = refl
+left_total nodes least [] (d ∷ ds) h = absurd h
+left_total nodes least (t ∷ ts) [] h = absurd h
+left_total nodes least (t ∷ ts) (d ∷ ds) h = (let a = left_total nodes t.mark ts ds h.1 in let b = ap size_of_part h.0.fits.part in omega (arith, a, b))
 
 pub falls_by : (w v : Walk) (old rest : List Task) (task : Task) (spots : List Spot) → old ≡ rest ++ task ∷ [] → w.tasks.items ≡ rest
-    → ((d : Spot) → Fits w.nodes.items task d → Adds w v (inside d.scope d.part)) → AllFit w.nodes.items old spots → left_over v.tasks.items < left_over old
+    → ((d : Spot) → Fits w.nodes.items task d → Adds w v (inside d.scope d.part)) → AllFit w.nodes.items 0 old spots → left_over v.tasks.items < left_over old
 falls_by w v old rest task spots e g adds fit =
-    let P : List Task → Type 0 = λ zs. AllFit w.nodes.items zs spots in
-    let p = last_of w.nodes.items rest task spots (subst P e fit) in
+    let P : List Task → Type 0 = λ zs. AllFit w.nodes.items 0 zs spots in
+    let p = last_of w.nodes.items 0 rest task spots (subst P e fit) in
     let d = p.one in
     let a = adds d p.fits in
     let new : left_over v.tasks.items ≡ left_over rest + left_over a.added = ap left_over (a.is ∙ ap (λ zs. zs ++ a.added) g) ∙ left_joined rest a.added in
     let before : left_over old ≡ left_over rest + (size_of_part (part_of task.part) + 0) = ap left_over e ∙ left_joined rest (task ∷ []) in
-    let added = left_total v.nodes.items a.added (inside d.scope d.part) a.fit in
+    let added = left_total v.nodes.items (length w.nodes.items) a.added (inside d.scope d.part) a.fit in
     let less = smaller d.scope d.part in
     let same = ap size_of_part p.fits.part in
     omega (arith, new, before, added, less, same)

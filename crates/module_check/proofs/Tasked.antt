@@ -8,17 +8,17 @@ use Rattle.erl_syntax.specs.declared.pattern.Pattern.{Pattern}
 use Rattle.erl_syntax.specs.declared.clause.Item.{Item}
 use Rattle.erl_syntax.specs.declared.typing.SideUse.TheVariants as side
 use Rattle.module_check.specs.Spots.{Spot, each, size_scope}
-use Rattle.std.proofs.Common.{get_or, take, drop}
-use Rattle.std.proofs.lemmas.List.{take_more, take_all, drop_more}
+use Rattle.std.proofs.Common.{get_or, take, drop, min}
+use Rattle.std.proofs.lemmas.List.{take_more, take_all, drop_more, take-append-le, take-append-drop, length-append, length-take}
 use Rattle.std.proofs.lemmas.Grind.{flat_map-append}
 use Rattle.erl_syntax.specs.Scopes.{Danger}
 use Rattle.erl_syntax.specs.Bindings.{vars_of}
-use Rattle.module_check.specs.declared.scopes.Node.{Node}
+use Rattle.module_check.specs.declared.trees.Node.{Node}
 use Rattle.module_check.specs.declared.tasks.Setting.{Setting}
 use Rattle.module_check.specs.declared.tasks.Task.{Task}
 use Rattle.module_check.specs.declared.tasks.Walk.{Walk}
 use Rattle.module_check.specs.Nodes.{Sees, SeesUnsafe, Grown}
-use Rattle.module_check.specs.Tasks.{Means, SeesSizes, Fits, AllFit, Adds}
+use Rattle.module_check.specs.Tasks.{Means, SeesSizes, Fits, Marked, AllFit, Adds}
 use Rattle.module_check.proofs.Chained.{grown_same, grown_twice, sees_grown, unsafe_grown}
 
 drop_all : {X : Type 0} (xs : List X) (i : ℕ) → length xs ≤ i → drop i xs ≡ []
@@ -41,17 +41,57 @@ sizes_grown old new k s (ASegment side.Generator last sg) g h = sees_grown old n
 pub fits_grown : (old new : List Node) (t : Task) (d : Spot) → Grown old new → Fits old t d → Fits new t d
 fits_grown old new t d g h = record { part = h.part; means = means_grown old new t.setting d.scope g h.means; sizes = sizes_grown old new t.setting.sizes d.scope d.part g h.sizes }
 
-pub all_grown : (old new : List Node) (ts : List Task) (ds : List Spot) → Grown old new → AllFit old ts ds → AllFit new ts ds
-all_grown old new [] [] g h = tt
-all_grown old new [] (d ∷ ds) g h = h
-all_grown old new (t ∷ ts) [] g h = h
-all_grown old new (t ∷ ts) (d ∷ ds) g h = (fits_grown old new t d g h.0, all_grown old new ts ds g h.1)
+take_grown : (old new : List Node) → Grown old new → (m : ℕ) → m ≤ length old → take m old ≡ take m new
+take_grown old new g m l = sym (take-append-le m old g.more l) ∙ ap (λ zs. take m zs) (sym g.is)
 
-pub all_joined : (nodes : List Node) (ts us : List Task) (ds es : List Spot) → AllFit nodes ts ds → AllFit nodes us es → AllFit nodes (ts ++ us) (ds ++ es)
-all_joined nodes [] us [] es h k = k
-all_joined nodes [] us (d ∷ ds) es h k = absurd h
-all_joined nodes (t ∷ ts) us [] es h k = absurd h
-all_joined nodes (t ∷ ts) us (d ∷ ds) es h k = (h.0, all_joined nodes ts us ds es h.1 k)
+length_grown : (old new : List Node) → Grown old new → length old ≤ length new
+length_grown old new g = let P : List Node → Type 0 = λ zs. length old ≤ length zs in subst P (sym g.is) (simp length-append (omega arith))
+
+pub front_grown : (nodes : List Node) (m : ℕ) → Grown (take m nodes) nodes
+front_grown nodes m = record { more = drop m nodes; is = sym (take-append-drop m nodes) }
+
+marked_grown : (old new : List Node) (least : ℕ) (t : Task) (d : Spot) → Grown old new → Marked old least t d → Marked new least t d
+marked_grown old new least t d g h =
+    let P : List Node → Type 0 = λ zs. Fits zs t d in
+    let size = length_grown old new g in
+    let low = h.within in
+    record { rises = h.rises; within = omega (arith, size, low); fits = subst P (take_grown old new g t.mark h.within) h.fits }
+
+all_least : (nodes : List Node) (least from : ℕ) (ts : List Task) (ds : List Spot) → least ≤ from → AllFit nodes from ts ds → AllFit nodes least ts ds
+all_least nodes least from [] [] l h = tt
+all_least nodes least from [] (d ∷ ds) l h = h
+all_least nodes least from (t ∷ ts) [] l h = h
+all_least nodes least from (t ∷ ts) (d ∷ ds) l h = (let low = h.0.rises in (record { rises = omega (arith, low, l); within = h.0.within; fits = h.0.fits }, h.1))
+
+pub all_from_none : (nodes : List Node) (from : ℕ) (ts : List Task) (ds : List Spot) → AllFit nodes from ts ds → AllFit nodes 0 ts ds
+all_from_none nodes from ts ds h = all_least nodes 0 from ts ds (omega arith) h
+
+-- tasks behind those that stood there before
+pub all_joined : (old new : List Node) (least : ℕ) (ts us : List Task) (ds es : List Spot) → Grown old new → least ≤ length old → AllFit old least ts ds → AllFit new (length old) us es → AllFit new least (ts ++ us) (ds ++ es)
+all_joined old new least [] us [] es g l h k = all_least new least (length old) us es l k
+all_joined old new least [] us (d ∷ ds) es g l h k = absurd h
+all_joined old new least (t ∷ ts) us [] es g l h k = absurd h
+all_joined old new least (t ∷ ts) us (d ∷ ds) es g l h k = (marked_grown old new least t d g h.0, all_joined old new t.mark ts us ds es g h.0.within h.1 k)
+
+marked_cut : (nodes : List Node) (m least : ℕ) (t : Task) (d : Spot) → t.mark ≤ m → Marked nodes least t d → Marked (take m nodes) least t d
+marked_cut nodes m least t d l h =
+    let low = h.within in
+    let size : length (take m nodes) ≡ min m (length nodes) = length-take m nodes in
+    let inside : t.mark ≤ length (take m nodes) = omega (arith, l, low, size) in
+    let P : List Node → Type 0 = λ zs. Fits zs t d in
+    record { rises = h.rises; within = inside; fits = subst P (sym (take_grown (take m nodes) nodes (front_grown nodes m) t.mark inside)) h.fits }
+
+-- no task needs the nodes above the mark of the last
+pub all_cut : (nodes : List Node) (least : ℕ) (ts : List Task) (task : Task) (ds : List Spot) → AllFit nodes least (ts ++ task ∷ []) ds → AllFit (take task.mark nodes) least (ts ++ task ∷ []) ds × (least ≤ task.mark)
+all_cut nodes least [] task [] h = absurd h
+all_cut nodes least [] task (d ∷ []) h = ((marked_cut nodes task.mark least task d (omega arith) h.0, tt), h.0.rises)
+all_cut nodes least [] task (d ∷ e ∷ ds) h = absurd h.1
+all_cut nodes least (t ∷ ts) task [] h = absurd h
+all_cut nodes least (t ∷ ts) task (d ∷ ds) h =
+    let r = all_cut nodes t.mark ts task ds h.1 in
+    let low = h.0.rises in
+    let high = r.1 in
+    ((marked_cut nodes task.mark least t d r.1 h.0, r.0), omega (arith, low, high))
 
 pub adds_none : (w : Walk) → Adds w w []
 adds_none w = record { grown = grown_same w.nodes.items; added = []; is = sym (append-nil w.tasks.items); fit = tt }
@@ -61,7 +101,7 @@ adds_twice w v u ds es a b = record {
   grown = grown_twice w.nodes.items v.nodes.items u.nodes.items a.grown b.grown;
   added = a.added ++ b.added;
   is = b.is ∙ ap (λ zs. zs ++ b.added) a.is ∙ append_assoc w.tasks.items a.added b.added;
-  fit = all_joined u.nodes.items a.added b.added ds es (all_grown v.nodes.items u.nodes.items a.added ds b.grown a.fit) b.fit;
+  fit = all_joined v.nodes.items u.nodes.items (length w.nodes.items) a.added b.added ds es b.grown (length_grown w.nodes.items v.nodes.items a.grown) a.fit b.fit;
 }
 
 pub adds_then : (w v u : Walk) (ds : List Spot) → Adds w v ds → Adds v u [] → Adds w u ds
@@ -70,10 +110,13 @@ adds_then w v u ds a b = let P : List Spot → Type 0 = λ zs. Adds w u zs in su
 pub adds_same : (w v : Walk) (ds es : List Spot) → ds ≡ es → Adds w v ds → Adds w v es
 adds_same w v ds es e h = let P : List Spot → Type 0 = λ zs. Adds w v zs in subst P e h
 
-pub adds_one : (w v : Walk) (t : Task) (d : Spot) → v.nodes.items ≡ w.nodes.items → v.tasks.items ≡ w.tasks.items ++ t ∷ [] → Fits w.nodes.items t d → Adds w v (d ∷ [])
-adds_one w v t d e h f =
+pub adds_one : (w v : Walk) (t : Task) (d : Spot) → t.mark ≡ length w.nodes.items → v.nodes.items ≡ w.nodes.items → v.tasks.items ≡ w.tasks.items ++ t ∷ [] → Fits w.nodes.items t d → Adds w v (d ∷ [])
+adds_one w v t d m e h f =
     let g : Grown w.nodes.items v.nodes.items = record { more = []; is = e ∙ sym (append-nil w.nodes.items) } in
-    record { grown = g; added = t ∷ []; is = h; fit = (fits_grown w.nodes.items v.nodes.items t d g f, tt) }
+    let P : List Node → Type 0 = λ zs. Fits zs t d in
+    let size = ap length e in
+    let all : take t.mark v.nodes.items ≡ w.nodes.items = ap (λ zs. take t.mark zs) e ∙ take_all t.mark w.nodes.items (omega (arith, m)) in
+    record { grown = g; added = t ∷ []; is = h; fit = (record { rises = omega (arith, m); within = omega (arith, m, size); fits = subst P (sym all) f }, tt) }
 
 -- only nodes are added
 pub adds_nodes : (w v : Walk) → Grown w.nodes.items v.nodes.items → v.tasks.items ≡ w.tasks.items → Adds w v []

@@ -1,5 +1,5 @@
 -- Looking at all that stands in a function.
-use Rattle.std.proofs.Common.{◌≡◌, ℕ, ◌<◌, List, [], ◌∷◌, ◌++◌, length, get_or, take, Option, Some, None, refl, sym, ◌∙◌, ap, subst, ◌⊎◌, inl, inr}
+use Rattle.std.proofs.Common.{◌≡◌, ℕ, ◌<◌, List, [], ◌∷◌, ◌++◌, length, get_or, take, arith, Option, Some, None, refl, sym, ◌∙◌, ap, subst, ◌⊎◌, inl, inr}
 use Rattle.std.specs.List.{Contains}
 use Rattle.std.proofs.lemmas.List.{get_or_default}
 use Rattle.std.proofs.lemmas.List.Elements.{Contains-append_left, Contains-append_right, Contains-append_cases, Contains-push}
@@ -8,7 +8,7 @@ use Rattle.erl_syntax.specs.declared.module.Module.{Module}
 use Rattle.erl_syntax.specs.declared.module.Function.{Function}
 use Rattle.erl_syntax.specs.declared.checking.CheckCause.{CheckCause}
 use Rattle.erl_syntax.specs.declared.checking.CheckFault.{CheckFault}
-use Rattle.module_check.specs.declared.scopes.Node.{Node}
+use Rattle.module_check.specs.declared.trees.Node.{Node}
 use Rattle.module_check.specs.declared.tasks.Task.{Task}
 use Rattle.module_check.specs.declared.tasks.Walk.{Walk}
 use Rattle.module_check.specs.Order.{NotAfter, IsFirstOf, IsLeast, Either}
@@ -18,7 +18,7 @@ use Rattle.module_check.specs.Faults.{Own, InnerFault, ClausesFault, FunctionFau
 use Rattle.module_check.proofs.Firsts.{in_turn, same_least, least_of_both}
 use Rattle.module_check.proofs.Spots.{none_in, only_one}
 use Rattle.module_check.proofs.Complete.{one_more}
-use Rattle.module_check.proofs.Tasked.{all_grown, all_joined}
+use Rattle.module_check.proofs.Tasked.{all_joined, all_from_none, all_cut, fits_grown, front_grown}
 
 -- no fault is told before the best one
 abbrev pub Covers : Option CheckFault → Span → CheckCause → Type 0
@@ -32,34 +32,42 @@ Holds P (Some a) = P a.span a.why
 -- what is looked at, and what is left
 pub record Looked (m : Module) (f : Function) (nodes : List Node) (tasks : List Task) (best : Option CheckFault) : Type 0 where
   pub spots : List Spot
-  pub fit : AllFit nodes tasks spots
+  pub fit : AllFit nodes 0 tasks spots
   pub stand : (d : Spot) → Contains spots d → IsUnder f d
   pub told : Holds (InnerFault m f) best
   pub covers : (d : Spot) → IsUnder f d → ((at : Span) (why : CheckCause) → Own m d.scope d.part at why → Covers best at why) ⊎ ((e : Spot) × (Contains spots e × Under e d))
 
 -- the last of the tasks
-pub record Last (nodes : List Node) (tasks : List Task) (task : Task) (spots : List Spot) : Type 0 where
+pub record Last (nodes : List Node) (least : ℕ) (tasks : List Task) (task : Task) (spots : List Spot) : Type 0 where
   pub before : List Spot
   pub one : Spot
   pub is : spots ≡ before ++ one ∷ []
-  pub fit : AllFit nodes tasks before
+  pub fit : AllFit nodes least tasks before
   pub fits : Fits nodes task one
 
-pub last_of : (nodes : List Node) (tasks : List Task) (task : Task) (spots : List Spot) → AllFit nodes (tasks ++ task ∷ []) spots → Last nodes tasks task spots
-last_of nodes [] task [] h = absurd h
-last_of nodes [] task (d ∷ []) h = record { before = []; one = d; is = refl; fit = tt; fits = h.0 }
-last_of nodes [] task (d ∷ e ∷ ds) h = absurd h.1
-last_of nodes (t ∷ ts) task [] h = absurd h
-last_of nodes (t ∷ ts) task (d ∷ ds) h =
-    let r = last_of nodes ts task ds h.1 in
+pub last_of : (nodes : List Node) (least : ℕ) (tasks : List Task) (task : Task) (spots : List Spot) → AllFit nodes least (tasks ++ task ∷ []) spots → Last nodes least tasks task spots
+last_of nodes least [] task [] h = absurd h
+last_of nodes least [] task (d ∷ []) h = record { before = []; one = d; is = refl; fit = tt; fits = fits_grown (take task.mark nodes) nodes task d (front_grown nodes task.mark) h.0.fits }
+last_of nodes least [] task (d ∷ e ∷ ds) h = absurd h.1
+last_of nodes least (t ∷ ts) task [] h = absurd h
+last_of nodes least (t ∷ ts) task (d ∷ ds) h =
+    let r = last_of nodes t.mark ts task ds h.1 in
     record { before = d ∷ r.before; one = r.one; is = ap (λ zs. d ∷ zs) r.is; fit = (h.0, r.fit); fits = r.fits }
+
+-- the nodes above the mark of the last task are let go
+pub looked_cut : (m : Module) (f : Function) (nodes cut : List Node) (tasks rest : List Task) (task : Task) (best : Option CheckFault) → tasks ≡ rest ++ task ∷ [] → cut ≡ take task.mark nodes → Looked m f nodes tasks best → Looked m f cut tasks best
+looked_cut m f nodes cut tasks rest task best e is l =
+    let P : List Task → Type 0 = λ zs. AllFit nodes 0 zs l.spots in
+    let Q : List Task → Type 0 = λ zs. AllFit cut 0 zs l.spots in
+    let R : List Node → Type 0 = λ ns. AllFit ns 0 (rest ++ task ∷ []) l.spots in
+    record { spots = l.spots; fit = subst Q (sym e) (subst R (sym is) (all_cut nodes 0 rest task l.spots (subst P e l.fit)).0); stand = l.stand; told = l.told; covers = l.covers }
 
 pub start : (m : Module) (f : Function) (w v : Walk) → w.tasks.items ≡ [] → Adds w v (clauses_in f) → Looked m f v.nodes.items v.tasks.items None
 start m f w v e a =
-    let P : List Task → Type 0 = λ zs. AllFit v.nodes.items zs (clauses_in f) in
+    let P : List Task → Type 0 = λ zs. AllFit v.nodes.items 0 zs (clauses_in f) in
     record {
       spots = clauses_in f;
-      fit = subst P (sym (a.is ∙ ap (λ zs. zs ++ a.added) e)) a.fit;
+      fit = subst P (sym (a.is ∙ ap (λ zs. zs ++ a.added) e)) (all_from_none v.nodes.items (length w.nodes.items) a.added (clauses_in f) a.fit);
       stand = λ d h. record { root = d; among = h; under = here d d refl };
       told = tt;
       covers = λ d h. inr (h.root, (h.among, h.under));
@@ -95,18 +103,18 @@ pub step : (m : Module) (f : Function) (w v : Walk) (old rest : List Task) (task
     → ((d : Spot) → Fits w.nodes.items task d → IsLeast (Own m d.scope d.part) own) → IsFirstOf best own new → ((d : Spot) → Fits w.nodes.items task d → Adds w v (inside d.scope d.part))
     → Looked m f w.nodes.items old best → Looked m f v.nodes.items v.tasks.items new
 step m f w v old rest task best own new e g o first adds l =
-    let P : List Task → Type 0 = λ zs. AllFit w.nodes.items zs l.spots in
-    let p = last_of w.nodes.items rest task l.spots (subst P e l.fit) in
+    let P : List Task → Type 0 = λ zs. AllFit w.nodes.items 0 zs l.spots in
+    let p = last_of w.nodes.items 0 rest task l.spots (subst P e l.fit) in
     let d0 = p.one in
     let a = adds d0 p.fits in
     let ins = inside d0.scope d0.part in
     let Q : List Spot → Type 0 = λ zs. Contains zs d0 in
     let stood : IsUnder f d0 = l.stand d0 (subst Q (sym p.is) (Contains-push p.before d0)) in
-    let R : List Task → Type 0 = λ zs. AllFit v.nodes.items zs (p.before ++ ins) in
+    let R : List Task → Type 0 = λ zs. AllFit v.nodes.items 0 zs (p.before ++ ins) in
     let least = o d0 p.fits in
     record {
       spots = p.before ++ ins;
-      fit = subst R (sym (a.is ∙ ap (λ zs. zs ++ a.added) g)) (all_joined v.nodes.items rest a.added p.before ins (all_grown w.nodes.items v.nodes.items rest p.before a.grown p.fit) a.fit);
+      fit = subst R (sym (a.is ∙ ap (λ zs. zs ++ a.added) g)) (all_joined w.nodes.items v.nodes.items 0 rest a.added p.before ins a.grown (omega arith) p.fit a.fit);
       stand = λ d h. elim (Contains-append_cases p.before ins d h) [
         | inl k ↦ l.stand d (let S : List Spot → Type 0 = λ zs. Contains zs d in subst S (sym p.is) (Contains-append_left p.before (d0 ∷ []) d k))
         | inr k ↦ one_more f d0 d stood k
@@ -128,13 +136,13 @@ step m f w v old rest task best own new e g o first adds l =
       | inr k ↦ by_under d before d0 least first (let S : Spot → Type 0 = λ v. Under v d in subst S (sym (only_one d0 e k)) u)
     ]
 
-none_fit : (nodes : List Node) (spots : List Spot) → AllFit nodes [] spots → spots ≡ []
+none_fit : (nodes : List Node) (spots : List Spot) → AllFit nodes 0 [] spots → spots ≡ []
 none_fit nodes [] h = refl
 none_fit nodes (d ∷ ds) h = absurd h
 
 pub finish : (m : Module) (f : Function) (nodes : List Node) (tasks : List Task) (best : Option CheckFault) → tasks ≡ [] → Looked m f nodes tasks best → IsLeast (InnerFault m f) best
 finish m f nodes tasks best e l =
-    let P : List Task → Type 0 = λ zs. AllFit nodes zs l.spots in
+    let P : List Task → Type 0 = λ zs. AllFit nodes 0 zs l.spots in
     let none = none_fit nodes l.spots (subst P e l.fit) in
     let all : (at : Span) (why : CheckCause) → InnerFault m f at why → Covers best at why = λ at why k. elim (l.covers k.0 k.1.0) [
       | inl z ↦ z at why k.1.1

@@ -1,12 +1,12 @@
 -- What is left to look at: parts with what is known where they stand.
-use Rattle.std.specs.Prelude.{◌≡◌, ℕ, List, [], ◌∷◌, ◌++◌, Option, Some, None}
+use Rattle.std.specs.Prelude.{◌≡◌, ◌≤◌, ℕ, List, [], ◌∷◌, ◌++◌, length, take, Option, Some, None}
 use Rattle.erl_syntax.specs.Bindings.{Bound, new_names}
 use Rattle.erl_syntax.specs.declared.expr.Expr.{Expr}
 use Rattle.erl_syntax.specs.declared.qual.Qual.{Qual}
 use Rattle.erl_syntax.specs.Scopes
 use Rattle.erl_syntax.specs.Scopes.{Scope, AnExpr, APattern, ABody, ASegment}
 use Rattle.erl_syntax.specs.declared.typing.SideUse.TheVariants as side
-use Rattle.module_check.specs.declared.scopes.Node.{Node}
+use Rattle.module_check.specs.declared.trees.Node.{Node}
 use Rattle.module_check.specs.declared.tasks.Part.{Part}
 use Rattle.module_check.specs.declared.tasks.Part.TheVariants as t
 use Rattle.module_check.specs.declared.tasks.Setting.{Setting}
@@ -41,19 +41,25 @@ pub record Fits (nodes : List Node) (task : Task) (d : Spot) : Type 0 where
   pub means : Means nodes task.setting d.scope
   pub sizes : SeesSizes nodes task.setting.sizes d.scope d.part
 
--- each task stands for one of the spots, in order
-abbrev pub AllFit : List Node → List Task → List Spot → Type 0
-AllFit nodes [] [] = Unit {0}
-AllFit nodes [] (d ∷ ds) = ⊥
-AllFit nodes (task ∷ tasks) [] = ⊥
-AllFit nodes (task ∷ tasks) (d ∷ ds) = Fits nodes task d × AllFit nodes tasks ds
+-- the task stands for the spot by the nodes up to its mark, which are at least so many
+pub record Marked (nodes : List Node) (least : ℕ) (task : Task) (d : Spot) : Type 0 where
+  pub rises : least ≤ task.mark
+  pub within : task.mark ≤ length nodes
+  pub fits : Fits (take task.mark nodes) task d
+
+-- each task stands for one of the spots, in order, and their marks rise
+abbrev pub AllFit : List Node → ℕ → List Task → List Spot → Type 0
+AllFit nodes least [] [] = Unit {0}
+AllFit nodes least [] (d ∷ ds) = ⊥
+AllFit nodes least (task ∷ tasks) [] = ⊥
+AllFit nodes least (task ∷ tasks) (d ∷ ds) = Marked nodes least task d × AllFit nodes task.mark tasks ds
 
 -- tasks that stand for these spots are added behind the others
 pub record Adds (old new : Walk) (ds : List Spot) : Type 0 where
   pub grown : Grown old.nodes.items new.nodes.items
   pub added : List Task
   pub is : new.tasks.items ≡ old.tasks.items ++ added
-  pub fit : AllFit new.nodes.items added ds
+  pub fit : AllFit new.nodes.items (length old.nodes.items) added ds
 
 -- where these variables of a bit pattern stand further left
 abbrev pub passed : List Bound → Scope → Scope

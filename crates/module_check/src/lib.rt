@@ -14,6 +14,7 @@ mod places;
 mod scopes;
 mod targets;
 mod tasks;
+mod trees;
 mod walk;
 
 pub use built_ins::built_in;

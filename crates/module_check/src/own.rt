@@ -14,8 +14,8 @@ ghost use Rattle.module_check.specs.Faults.{UnsafeFault, ReadFault, ExprFault, P
 use crate::calls::call_fault;
 use crate::index::Indexed;
 use crate::order::{fault_if, first_of};
-use crate::scopes::{Node, find};
 use crate::tasks::{Part, Setting, Task};
+use crate::trees::{Node, find};
 use erl_syntax::{CheckCause, CheckFault, Expr, Pattern, Segment, SideUse, Span};
 use segment_type::type_segment;
 

@@ -11,8 +11,8 @@ ghost use Rattle.module_check.specs.Spots.{Spot};
 ghost use Rattle.module_check.specs.Tasks.{Means, Fits};
 ghost use Rattle.module_check.specs.Places.{seen, IsOnly, Reads, Meets, ExprPlace, PatternPlace, ValuePlace, SegmentPlace, OwnPlace, InnerPlace, AreAll};
 
-use crate::scopes::{Node, find};
 use crate::tasks::{Part, Setting, Task, Walk};
+use crate::trees::{Node, find};
 use erl_syntax::{Expr, Function, Pattern, Segment, SideUse, Span};
 use std::alloc::{AllocError, Global};
 
@@ -143,6 +143,7 @@ pub(crate) fn places(alloc: Global, function: &Function) -> Result<Vec<Occurrenc
     walk.push_clauses(function)?;
     let mut found = Vec::new(alloc);
     while let Some(task) = walk.tasks.pop() {
+        walk.nodes.truncate(task.mark);
         add(&mut found, own_place(&walk.nodes, task))?;
         walk.push_inside(task)?;
     }

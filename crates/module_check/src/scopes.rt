@@ -1,58 +1,19 @@
-//! Scopes, which share what they have in common: each name is a node that leads to what was known before.
+//! Scopes, which are the roots of trees of names.
 
 ghost use Rattle.std.specs.Prelude.{◌≡◌, ◌≤◌, ◌+◌, ◌++◌, ◌∷◌, [], ℕ, List, length, IfOk, MatchBool, MatchOption};
 ghost use Rattle.erl_syntax.specs.Bindings.{Bound, names};
 ghost use Rattle.erl_syntax.specs.Scopes.{Scope, Danger, Found, IsKnown};
 ghost use Rattle.module_check.specs.Nodes.{Chain, Sees, Grown, bounds_of, bound_of, SeesUnsafe};
 
+use crate::trees::{Node, find, put};
 use erl_syntax::Span;
 use std::alloc::AllocError;
-
-/// A name with its place, in front of what was known before.
-#[derive(Clone, Copy)]
-pub(crate) struct Node<'a> {
-    pub name: &'a [u8],
-    pub at: Span,
-    /// The number of the node before, counted from 1, or 0.
-    pub before: usize,
-}
 
 /// A variable in a pattern.
 #[derive(Clone, Copy)]
 pub(crate) struct Target<'a> {
     pub name: &'a [u8],
     pub at: Span,
-}
-
-/// The place of the name among those known at the node.
-pub(crate) fn find(nodes: &[Node], last: usize, name: &[u8]) -> Option<Span>
-    ensures { (bs : List Bound) → Chain nodes.now last bs → MatchOption result (IsKnown bs name.now → ⊥) (λ at. Found bs name.now at) }
-{
-    let mut rest = last;
-    while rest > 0 {
-        let Some(node) = nodes.get(rest - 1) else {
-            return None;
-        };
-        if node.name == name {
-            return Some(node.at);
-        }
-        rest = node.before.min(rest - 1);
-    }
-    None
-}
-
-/// Puts a name in front of those known at a node, and answers the new node.
-pub(crate) fn put<'a>(
-    nodes: &mut Vec<Node<'a>>,
-    before: usize,
-    name: &'a [u8],
-    at: Span,
-) -> Result<usize, AllocError>
-    ensures grown { IfOk result (λ last. Grown nodes.old.items nodes.new.items) }
-    ensures put { IfOk result (λ last. (bs : List Bound) → Chain nodes.old.items before bs → Chain nodes.new.items last (record { name = name.entry.now; at = at } ∷ bs)) }
-{
-    nodes.push(Node { name, at, before })?;
-    Ok(nodes.len())
 }
 
 /// Puts the variables in front, the first of them foremost.

@@ -13,8 +13,9 @@ ghost use Rattle.module_check.specs.Nodes.{Sees, bound_of, bounds_of};
 ghost use Rattle.module_check.specs.Spots.{Spot, spot, each, expr_in, same_in, tests_in, guard_in, pattern_in, matched_in, item_in, items_in, built_in_turn, segment_in, alt_layer_in, alt_in, branch_layer_in, branch_in, qual_in, quals_in, comprehension_in, inside_expr, inside_pattern, size_scope, inside_segment, inside, clause_in, clauses_in};
 ghost use Rattle.module_check.specs.Tasks.{Means, SeesSizes, Fits, Adds, Passes, passed, with_new, size_in};
 
-use crate::scopes::{Node, Target, append, append_all, endanger, find, put, put_all};
+use crate::scopes::{Target, append, append_all, endanger, put_all};
 use crate::targets::{add_new, add_qual_unsafe, add_segment_target, add_targets, add_unsafe};
+use crate::trees::{Node, find, put};
 use erl_syntax::{
     Alt, Branch, Clause, Expr, Function, Guard, Item, Pattern, Qual, Segment, SideUse,
 };
@@ -44,6 +45,8 @@ pub(crate) struct Setting {
 pub(crate) struct Task<'a> {
     pub setting: Setting,
     pub part: Part<'a>,
+    /// How many nodes there were when the task was added: it needs none of those that are added later.
+    pub mark: usize,
 }
 
 /// What is left to look at in a function.
@@ -56,9 +59,16 @@ pub(crate) struct Walk<'a> {
 
 impl<'a> Walk<'a> {
     fn push(&mut self, setting: Setting, part: Part<'a>) -> Result<(), AllocError>
-        ensures { IfOk result (λ u. (d : Spot) → Fits self.old.nodes.items (record { setting = setting; part = part.entry }) d → Adds self.old self.new (d ∷ [])) }
+        ensures { IfOk result (λ u. (d : Spot) → Fits self.old.nodes.items (record { setting = setting; part = part.entry; mark = length self.old.nodes.items }) d → Adds self.old self.new (d ∷ [])) }
     {
-        Ok(self.tasks.push(Task { setting, part })?)
+        let mark = self.nodes.len();
+        Ok(
+            self.tasks.push(Task {
+                setting,
+                part,
+                mark,
+            })?,
+        )
     }
 
     /// The setting behind an expression.

@@ -27,6 +27,7 @@ pub(crate) fn inner_fault(
     walk.push_clauses(function)?;
     let mut best = None;
     while let Some(task) = walk.tasks.pop() {
+        walk.nodes.truncate(task.mark);
         best = first_of(best, own_fault(tree, &walk.nodes, task));
         walk.push_inside(task)?;
     }

@@ -3,7 +3,7 @@ use Rattle.std.proofs.lemmas.List.{append-nil, append_assoc, get_or_default}
 use Rattle.module_check.specs.declared.scopes.Target.{Target}
 use Rattle.module_check.specs.Nodes.{bound_of, bounds_of}
 use Rattle.module_check.specs.Tasks.{passed}
-use Rattle.module_check.proofs.Chained.{bounds_more}
+use Rattle.module_check.proofs.Chained.{bounds_more, bounds_all}
 use Rattle.module_check.proofs.Tasked.{adds_none, adds_then}
 use Rattle.module_check.proofs.Passing.{passes_front}
 use Rattle.module_check.proofs.tasks.Walk.pass_targets.Goals as goal
@@ -22,3 +22,9 @@ loop-target-preserved c = record {
       let l : i < length xs = omega arith in
       passes_front _ _ (λ zs. passed zs s) ((bs ++ bounds_of (take i xs)) ++ bound_of one ∷ []) (bs ++ bounds_of (take (i + 1) xs)) (append_assoc bs (bounds_of (take i xs)) (bound_of one ∷ []) ∙ ap (λ zs. bs ++ zs) (sym (bounds_more xs i one l (get_or_default xs i d one l)))) (c.in_ok-after.ensures.means s (bs ++ bounds_of (take i xs)) (c.loop-target.invariant.means s bs m));
 }
+
+pub returns-clause-means : goal.returns-clause-means
+returns-clause-means c = λ s bs m.
+    let xs = c.args.targets.now in
+    let i = c.loop-target.target-index in
+    passes_front _ _ (λ zs. passed zs s) (bs ++ bounds_of (take i xs)) (bs ++ bounds_of xs) (ap (λ zs. bs ++ zs) (bounds_all xs i (omega arith))) (c.loop-target.invariant.means s bs m)
