@@ -87,11 +87,19 @@ endian_of (k.Utf utf.Utf8) w = endian.Big
 endian_of (k.Utf utf.Utf16) w = order_of w
 endian_of (k.Utf utf.Utf32) w = order_of w
 
+-- how long a segment is, where a size is written and where none is
+abbrev pub size_by : Bool → Kind → SizeUse
+size_by sized (k.Utf u) = z.NoSize
+size_by true kind = z.Given
+size_by false k.Int = z.Default 8
+size_by false kind = z.Whole
+
+abbrev pub is_sized : Option Expr → Bool
+is_sized None = false
+is_sized (Some e) = true
+
 abbrev pub size_of : Kind → Option Expr → SizeUse
-size_of (k.Utf u) e = z.NoSize
-size_of _ (Some e) = z.Given
-size_of k.Int None = z.Default 8
-size_of _ None = z.Whole
+size_of kind e = size_by (is_sized e) kind
 
 abbrev pub usual_unit : Kind → ℕ
 usual_unit k.Binary = 8
@@ -104,15 +112,22 @@ unit_of kind _ = usual_unit kind
 abbrev pub kind : Segment → Kind
 kind sg = type_of (word g.Type sg.specs)
 
+-- the type that these words give a segment of this kind, with a size or without
+abbrev pub type_as : Bool → List Spec → Kind → Typed
+type_as sized words kind = record {
+  kind = kind;
+  sign = sign_of kind (word g.Sign words);
+  endian = endian_of kind (word g.Endian words);
+  size = size_by sized kind;
+  unit = unit_of kind (word g.Unit words);
+}
+
+abbrev pub type_by : Bool → List Spec → Typed
+type_by sized words = type_as sized words (type_of (word g.Type words))
+
 -- the type of a segment that has no fault
 abbrev pub table : Segment → Typed
-table sg = record {
-  kind = kind sg;
-  sign = sign_of (kind sg) (word g.Sign sg.specs);
-  endian = endian_of (kind sg) (word g.Endian sg.specs);
-  size = size_of (kind sg) sg.size;
-  unit = unit_of (kind sg) (word g.Unit sg.specs);
-}
+table sg = type_by (is_sized sg.size) sg.specs
 
 -- two words of a kind that differ
 abbrev pub Differ : List Spec → Type 0

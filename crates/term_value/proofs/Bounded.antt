@@ -1,12 +1,14 @@
 -- A legal order has at most so many entries as the reductions of its processes allow.
 use Rattle.std.proofs.Common.{◌≡◌, ℕ, zero, suc, ◌+◌, ◌-◌, ◌*◌, ◌<◌, ◌≤◌, Bool, true, false, List, [], ◌∷◌, ◌++◌, length, Option, Some, refl, ap, arith, length-append, length-set}
 use Rattle.std.specs.Prelude.{slice_get, slice_set, nat_lt, codes}
-use Rattle.term_value.specs.Value.{Value, VPid, none}
+use Rattle.erl_syntax.specs.Atoms.{a_undef}
+use Rattle.erl_syntax.specs.Reading.{number_in}
+use Rattle.term_value.specs.Value.{Value, VAtom, VPid, none}
 use Rattle.term_value.specs.Result.{Stop, Raise, Limit, truth}
 use Rattle.term_value.specs.Tree.{Tree, Module}
 use Rattle.term_value.specs.Step.{SendTo, Show, Start, Step, Ready, Goes, Falls, Asks, Looks, step}
 use Rattle.term_value.specs.Local.{Course, At, Fell, Local, world, Seen, Takes, NoMessage, SeenLimit, looked, charged, Next, On, Asking, ForMore, Done, Raised, is_normal, raised_where, ended, if_left, of_seen, of_step, of_course, next_of, size_of_course, Outcome, Wants, WantsMore, EndsDone, EndsRaised, Unfinished, on_if, onward, walk, outcome_in, ask_of}
-use Rattle.term_value.specs.Machine.{End, Waiting, Process, Running, Over, Left, Machine, process_bound, process_at, with_process, ask_of_process, ask_at, unseen_at, answered, went_on, asked_at, received_by, received, saw, born, at_limit, end_of, left_by, apply, SendsTo, Shows, Starts, Waits, Ends, Runs, IsOver, Legal, IsLegal, start_of, first_of, atom_from}
+use Rattle.term_value.specs.Machine.{End, Waiting, Process, Running, Over, Left, Machine, process_bound, process_at, with_process, ask_of_process, ask_at, unseen_at, answered, went_on, asked_at, received_by, received, saw, born, limited, end_of, left_by, apply, SendsTo, Shows, Starts, Waits, Ends, Runs, IsOver, Legal, IsLegal, start_of, first_of}
 use Rattle.term_value.specs.Laws.{LegalIsShort}
 use Rattle.term_value.specs.declared.entry.Entry.{Entry}
 use Rattle.term_value.specs.declared.entry.Entry.TheVariants.{Sent, Saw, Shown, Started, Full, Ended, Stopped, Gone}
@@ -79,76 +81,28 @@ outcome_pays : (code : Module) (left n : ℕ) (l : Local) → l.left ≤ left �
 outcome_pays code left zero l h = walk_pays code (λ k. Unfinished) left (λ k i. tt) (size_of_course l.course) l h
 outcome_pays code left (suc n) l h = walk_pays code (outcome_in code n) left (λ k i. outcome_pays code left n k i) (size_of_course l.course) l h
 
--- ---- A state that fell asks for nothing
-
-abbrev AsksNothing : Outcome → Type 0
-AsksNothing (Wants ask next) = ⊥
-AsksNothing (WantsMore l) = ⊥
-AsksNothing _ = Unit {0}
-
-raised_ends : (same less : Local → Outcome) (left : ℕ) (b : Bool) (reason : Value) → AsksNothing (onward same less left (raised_where b reason))
-raised_ends same less left true reason = tt
-raised_ends same less left false reason = tt
-
-fell_ends : (same less : Local → Outcome) (left : ℕ) (stop : Stop) → AsksNothing (onward same less left (ended stop))
-fell_ends same less left Limit = tt
-fell_ends same less left (Raise reason) = raised_ends same less left (is_normal reason) reason
-
-abbrev part : Course → ℕ
-part (At t) = 3
-part (Fell stop) = 2
-
--- where it asks for something, it has not fallen
-abbrev AsksOr : Course → Outcome → Type 0
-AsksOr (At t) o = Unit {0}
-AsksOr (Fell stop) o = AsksNothing o
-
-onward_or : (code : Module) (same less : Local → Outcome) (l : Local) (course : Course) → AsksOr course (onward same less l.left (of_course code l course))
-onward_or code same less l (At t) = tt
-onward_or code same less l (Fell stop) = fell_ends same less l.left stop
-
-walk_or : (code : Module) (less : Local → Outcome) (n : ℕ) (l : Local) → AsksOr l.course (walk code less n l)
-walk_or code less zero l = onward_or code (λ k. Unfinished) less l l.course
-walk_or code less (suc n) l = onward_or code (walk code less n) less l l.course
-
-outcome_or : (code : Module) (n : ℕ) (l : Local) → AsksOr l.course (outcome_in code n l)
-outcome_or code zero l = walk_or code (λ k. Unfinished) (size_of_course l.course) l
-outcome_or code (suc n) l = walk_or code (outcome_in code n) (size_of_course l.course) l
-
 -- ---- The potential of a process, and what an entry takes of it
 
 abbrev potential : Process → ℕ
-potential (Running l unseen) = l.left + part l.course
+potential (Running l unseen) = l.left + 2
 potential (Over how) = 1
 potential (Left how) = 0
-
-part_most : (course : Course) → part course ≤ 3
-part_most (At t) = omega arith
-part_most (Fell stop) = omega arith
-
-part_least : (course : Course) → 2 ≤ part course
-part_least (At t) = omega arith
-part_least (Fell stop) = omega arith
-
-asking_part : (course : Course) (o : Outcome) → AsksOr course o → (AsksNothing o → ⊥) → part course ≡ 3
-asking_part (At t) o h n = refl
-asking_part (Fell stop) o h n = absurd (n h)
 
 abbrev Wanting : Option Outcome → Type 0
 Wanting (Some (Wants ask next)) = Unit {0}
 Wanting _ = ⊥
 
-wanted : (l : Local) (unseen : List Value) (v : Value) (o : Outcome) → Pays l.left o → AsksOr l.course o → Wanting (Some o) → potential (answered (Some o) v unseen) + 1 ≤ l.left + part l.course
-wanted l unseen v (Wants ask next) p a w = omega (arith, p v, part_most (next v).course, asking_part l.course (Wants ask next) a (λ h. h))
-wanted l unseen v o p a w = absurd w
+wanted : (l : Local) (unseen : List Value) (v : Value) (o : Outcome) → Pays l.left o → Wanting (Some o) → potential (answered (Some o) v unseen) + 1 ≤ l.left + 2
+wanted l unseen v (Wants ask next) p w = omega (arith, p v)
+wanted l unseen v o p w = absurd w
 
-limited : (l : Local) (o : Outcome) → AsksOr l.course o → Wanting (Some o) → l.left + 2 + 1 ≤ l.left + part l.course
-limited l (Wants ask next) a w = omega (arith, asking_part l.course (Wants ask next) a (λ h. h))
-limited l o a w = absurd w
+stopped_short : (l : Local) (unseen : List Value) (o : Outcome) → Pays l.left o → Wanting (Some o) → potential (limited (Some o) unseen) + 1 ≤ l.left + 2
+stopped_short l unseen (Wants ask next) p w = omega (arith, p (VAtom a_undef))
+stopped_short l unseen o p w = absurd w
 
-waited : (l : Local) (unseen : List Value) (o : Outcome) → Pays l.left o → AsksOr l.course o → Waits (Some o) → potential (saw (Some o) unseen) + 1 ≤ l.left + part l.course
-waited l unseen (WantsMore k) p a w = omega (arith, p, part_most k.course, asking_part l.course (WantsMore k) a (λ h. h))
-waited l unseen o p a w = absurd w
+waited : (l : Local) (unseen : List Value) (o : Outcome) → Pays l.left o → Waits (Some o) → potential (saw (Some o) unseen) + 1 ≤ l.left + 2
+waited l unseen (WantsMore k) p w = omega (arith, p)
+waited l unseen o p w = absurd w
 
 -- a process that is there falls by at least one
 abbrev Falls_to : Option Process → Process → Type 0
@@ -156,23 +110,23 @@ Falls_to o q = (p : Process) × (o ≡ Some p) × (potential q + 1 ≤ potential
 
 module _ (code : Module) where
   answered_falls : (o : Option Process) (v : Value) (unseen : List Value) → Wanting (ask_of_process code o) → Falls_to o (answered (ask_of_process code o) v unseen)
-  answered_falls (Some (Running l u)) v unseen w = (Running l u, refl, wanted l unseen v (ask_of code l) (outcome_pays code l.left l.left l (omega arith)) (outcome_or code l.left l) w)
+  answered_falls (Some (Running l u)) v unseen w = (Running l u, refl, wanted l unseen v (ask_of code l) (outcome_pays code l.left l.left l (omega arith)) w)
   answered_falls o v unseen w = absurd w
 
   saw_falls : (o : Option Process) (unseen : List Value) → Waits (ask_of_process code o) → Falls_to o (saw (ask_of_process code o) unseen)
-  saw_falls (Some (Running l u)) unseen w = (Running l u, refl, waited l unseen (ask_of code l) (outcome_pays code l.left l.left l (omega arith)) (outcome_or code l.left l) w)
+  saw_falls (Some (Running l u)) unseen w = (Running l u, refl, waited l unseen (ask_of code l) (outcome_pays code l.left l.left l (omega arith)) w)
   saw_falls o unseen w = absurd w
 
-  limit_falls : (o : Option Process) → Wanting (ask_of_process code o) → Falls_to o (at_limit o)
-  limit_falls (Some (Running l u)) w = (Running l u, refl, limited l (ask_of code l) (outcome_or code l.left l) w)
-  limit_falls o w = absurd w
+  limit_falls : (o : Option Process) (unseen : List Value) → Wanting (ask_of_process code o) → Falls_to o (limited (ask_of_process code o) unseen)
+  limit_falls (Some (Running l u)) unseen w = (Running l u, refl, stopped_short l unseen (ask_of code l) (outcome_pays code l.left l.left l (omega arith)) w)
+  limit_falls o unseen w = absurd w
 
   ended_falls : (o : Option Process) (how : End) → Ends (ask_of_process code o) → Falls_to o (Over how)
-  ended_falls (Some (Running l u)) how w = (Running l u, refl, omega (arith, part_least l.course))
+  ended_falls (Some (Running l u)) how w = (Running l u, refl, omega arith)
   ended_falls o how w = absurd w
 
 stopped_falls : (o : Option Process) (how : End) → Runs o → Falls_to o (Over how)
-stopped_falls (Some (Running l u)) how w = (Running l u, refl, omega (arith, part_least l.course))
+stopped_falls (Some (Running l u)) how w = (Running l u, refl, omega arith)
 stopped_falls o how w = absurd w
 
 left_falls : (o : Option Process) → IsOver o → Falls_to o (left_by o)
@@ -205,7 +159,7 @@ total-push [] q = omega arith
 total-push (p ∷ ps) q = omega (arith, total-push ps q)
 
 abbrev room : Machine → ℕ
-room m = (process_bound - length m.processes) * (m.reductions + 3)
+room m = (process_bound - length m.processes) * (m.reductions + 2)
 
 abbrev all_of : Machine → ℕ
 all_of m = total m.processes + room m
@@ -216,7 +170,7 @@ set_count m (suc before) q = length-set m.processes before q
 
 set_room : (m : Machine) (pid : ℕ) (q : Process) → room (with_process m pid q) ≡ room m
 set_room m zero q = refl
-set_room m (suc before) q = ap (λ n. (process_bound - n) * (m.reductions + 3)) (length-set m.processes before q)
+set_room m (suc before) q = ap (λ n. (process_bound - n) * (m.reductions + 2)) (length-set m.processes before q)
 
 received_by_all : (m : Machine) (pid : ℕ) (v : Value) → total (received m pid v).processes ≡ total m.processes
 received_by_all m zero v = refl
@@ -240,8 +194,8 @@ starts_wants : (o : Option Outcome) → Starts o → Wanting o
 starts_wants (Some (Wants ask next)) h = tt
 starts_wants o h = absurd h
 
-first_small : (code : Module) (reductions pid : ℕ) (o : Option Outcome) → Starts o → potential (born code reductions pid o) ≤ reductions + 3
-first_small code reductions pid (Some (Wants (Start name function vs) next)) h = omega (arith, part_most (first_of code reductions pid name function vs).course)
+first_small : (code : Module) (reductions pid : ℕ) (o : Option Outcome) → Starts o → potential (born code reductions pid o) ≤ reductions + 2
+first_small code reductions pid (Some (Wants (Start name function vs) next)) h = omega arith
 first_small code reductions pid o h = absurd h
 
 -- one process more takes its part of the room
@@ -266,8 +220,8 @@ entry_falls m (Started (suc before) child) h =
     let set : length n.processes ≡ length m.processes = set_count m pid (answered (ask_at m pid) (VPid child) (unseen_at m pid)) in
     let more : length (n.processes ++ q ∷ []) ≡ length n.processes + 1 = length-append n.processes (q ∷ []) in
     let within : length (n.processes ++ q ∷ []) ≤ process_bound = omega (arith, more, set, h.1, h.2) in
-    omega (arith, answer_falls m pid (VPid child) (starts_wants (ask_at m pid) h.0), total-push n.processes q, first_small m.code m.reductions child (ask_at m pid) h.0, one_more_room (length (n.processes ++ q ∷ [])) (length n.processes) (m.reductions + 3) more within)
-entry_falls m (Full pid) h = falls m pid (at_limit (process_at m pid)) (limit_falls m.code (process_at m pid) (starts_wants (ask_at m pid) h.0))
+    omega (arith, answer_falls m pid (VPid child) (starts_wants (ask_at m pid) h.0), total-push n.processes q, first_small m.code m.reductions child (ask_at m pid) h.0, one_more_room (length (n.processes ++ q ∷ [])) (length n.processes) (m.reductions + 2) more within)
+entry_falls m (Full pid) h = falls m pid (limited (ask_at m pid) (unseen_at m pid)) (limit_falls m.code (process_at m pid) (unseen_at m pid) (starts_wants (ask_at m pid) h.0))
 entry_falls m (Ended pid) h = falls m pid (Over (end_of (ask_at m pid))) (ended_falls m.code (process_at m pid) (end_of (ask_at m pid)) h)
 entry_falls m (Stopped pid) h = falls m pid (Over Waiting) (stopped_falls (process_at m pid) Waiting h.0)
 entry_falls m (Gone pid births drops moved) h = falls m pid (left_by (process_at m pid)) (left_falls (process_at m pid) h)
@@ -276,8 +230,8 @@ short : (m : Machine) (es : List Entry) → IsLegal m es → length es ≤ all_o
 short m [] h = omega arith
 short m (e ∷ es) h = omega (arith, entry_falls m e h.0, short (apply m e) es h.1)
 
-start_most : (l : Local) (r : ℕ) → l.left ≡ r → total (Running l [] ∷ []) + (process_bound - 1) * (r + 3) ≤ process_bound * (r + 3)
-start_most l r e = omega (arith, part_most l.course, e)
+start_most : (l : Local) (r : ℕ) → l.left ≡ r → total (Running l [] ∷ []) + (process_bound - 1) * (r + 2) ≤ process_bound * (r + 2)
+start_most l r e = omega (arith, e)
 
 pub legal_is_short : LegalIsShort
-legal_is_short code reductions es h = omega (arith, short (start_of code reductions) es h, start_most (first_of code reductions 1 code.name (atom_from 0 code.atoms (codes "main")) none) reductions refl)
+legal_is_short code reductions es h = omega (arith, short (start_of code reductions) es h, start_most (first_of code reductions 1 code.name (number_in code.atoms (codes "main")) none) reductions refl)

@@ -42,9 +42,9 @@ EachAsks = (code : Module) (l : Local) → Finished (ask_of code l)
 abbrev pub CompleteIsLast : Type 0
 CompleteIsLast = (m : Machine) (entries : List Entry) (entry : Entry) → IsComplete m entries → Legal (after m entries) entry → ⊥
 
--- a legal order has at most so many entries as the reductions allow: each process ends and is gone once, and may find that no more may be started
+-- a legal order has at most so many entries as the reductions allow: each process ends and is gone once
 abbrev pub LegalIsShort : Type 0
-LegalIsShort = (code : Module) (reductions : ℕ) (entries : List Entry) → IsLegal (start_of code reductions) entries → length entries ≤ process_bound * (reductions + 3)
+LegalIsShort = (code : Module) (reductions : ℕ) (entries : List Entry) → IsLegal (start_of code reductions) entries → length entries ≤ process_bound * (reductions + 2)
 
 -- an integer segment with a size in bits
 abbrev pub integer_segment : Sign → Endian → Typed

@@ -1,11 +1,10 @@
 -- The copying machine: bitstrings are lists of bits, and what is sent is copied. Its orders, legal and complete (the acts are
 -- the Erlang Reference Manual's, "Processes"; that each is one entry of an order, and the bound on processes, are this
 -- project's own).
-use Rattle.std.specs.Prelude.{◌≡◌, ℕ, zero, suc, ◌+◌, ◌≤◌, Bool, true, false, ◌&&◌, List, [], ◌∷◌, ◌++◌, codes, Option, Some, None, cond, nat_eq, slice_get, slice_set, length}
-use Rattle.std.specs.Ordering.{is_eq, nat_cmp}
-use Rattle.std.specs.Cmp.Lexicographic.{slice_cmp}
+use Rattle.std.specs.Prelude.{◌≡◌, ℕ, zero, suc, ◌+◌, ◌≤◌, Bool, true, false, ◌&&◌, List, [], ◌∷◌, ◌++◌, codes, Option, Some, None, nat_eq, slice_get, slice_set, length}
 use Rattle.term_value.specs.Value.{Value, VAtom, VPid, Values, none, more, count}
 use Rattle.erl_syntax.specs.Atoms.{a_undef}
+use Rattle.erl_syntax.specs.Reading.{number_in}
 use Rattle.term_value.specs.Result.{Limit, raise, truth}
 use Rattle.term_value.specs.Tree.{Val, All, Call, Trees, end, and, Function, Module}
 use Rattle.term_value.specs.Step.{SendTo, Show, Start}
@@ -129,10 +128,10 @@ abbrev pub born : Module → ℕ → ℕ → Option Outcome → Process
 born code reductions pid (Some (Wants (Start module_name function vs) next)) = Running (first_of code reductions pid module_name function vs) []
 born code reductions pid _ = Left Normal
 
--- whose next step is its end, so its reductions and its messages play no part any more
-abbrev pub at_limit : Option Process → Process
-at_limit (Some (Running local unseen)) = Running (record local { course = Fell Limit }) unseen
-at_limit _ = Left Normal
+-- the process goes on at a limit, in the place of an answer
+abbrev pub limited : Option Outcome → List Value → Process
+limited (Some (Wants ask next)) unseen = Running (record (next (VAtom a_undef)) { course = Fell Limit }) unseen
+limited _ unseen = Left Normal
 
 abbrev pub end_of : Option Outcome → End
 end_of (Some (EndsRaised reason)) = Exit reason
@@ -148,7 +147,7 @@ apply m (Sent from to) = received (went_on m from (asked_at m from)) to (asked_a
 apply m (Saw pid n) = with_process m pid (saw (ask_at m pid) (unseen_at m pid))
 apply m (Shown pid) = record (went_on m pid (truth true)) { shown = m.shown ++ asked_at m pid ∷ [] }
 apply m (Started pid child) = let n = went_on m pid (VPid child) in record n { processes = n.processes ++ born m.code m.reductions child (ask_at m pid) ∷ [] }
-apply m (Full pid) = with_process m pid (at_limit (process_at m pid))
+apply m (Full pid) = with_process m pid (limited (ask_at m pid) (unseen_at m pid))
 apply m (Ended pid) = with_process m pid (Over (end_of (ask_at m pid)))
 apply m (Stopped pid) = with_process m pid (Over Waiting)
 apply m (Gone pid births drops moved) = with_process m pid (left_by (process_at m pid))
@@ -225,11 +224,6 @@ AllGone (process ∷ processes) = IsGone process × AllGone processes
 abbrev pub IsComplete : Machine → List Entry → Type 0
 IsComplete m entries = AllGone (after m entries).processes
 
--- the number of the atom with these characters in a table from a number on
-abbrev pub atom_from : ℕ → List (List ℕ) → List ℕ → ℕ
-atom_from number [] name = number
-atom_from number (atom ∷ atoms) name = cond (is_eq (slice_cmp nat_cmp atom name)) number (atom_from (number + 1) atoms name)
-
 -- at first process 1 runs with the call `main()`
 abbrev pub start_of : Module → ℕ → Machine
-start_of code reductions = record { code = code; reductions = reductions; processes = Running (first_of code reductions 1 code.name (atom_from 0 code.atoms (codes "main")) none) [] ∷ []; shown = [] }
+start_of code reductions = record { code = code; reductions = reductions; processes = Running (first_of code reductions 1 code.name (number_in code.atoms (codes "main")) none) [] ∷ []; shown = [] }

@@ -1,14 +1,14 @@
 -- Small expressions and patterns of modules as they are read, and what they then come to.
-use Rattle.std.specs.Prelude.{◌≡◌, ℕ, pos, negsuc, List, [], ◌∷◌, ◌++◌, codes, Option, Some, None, slice_index_or}
+use Rattle.std.specs.Prelude.{◌≡◌, ℕ, negsuc, List, [], ◌∷◌, ◌++◌, codes, Some, slice_index_or}
 use Rattle.erl_syntax.specs.Atoms.{fixed_atoms, a_badarg}
 use Rattle.erl_syntax.specs.declared.span.Span.{Span}
 use Rattle.erl_syntax.specs.declared.expr.Expr.TheOpen as O
 use Rattle.erl_syntax.specs.declared.expr.Prefix.TheVariants.{Minus}
 use Rattle.erl_syntax.specs.declared.built_in.BuiltIn.TheVariants.{SelfPid}
-use Rattle.term_value.specs.Value.{Value, VInt, VAtom, VList, VBits, row}
+use Rattle.term_value.specs.Value.{VInt, VAtom, VList, VBits, row}
 use Rattle.term_value.specs.Tree.{Native, Table, Call, Equal, Tree, All, First, Trees, end, Last, PVar, Pattern, no_pattern, pattern_and}
-use Rattle.term_value.specs.Read.{Reading, Read, expression, literal, Piece, Branch, Qualifier, Line, pieces, body}
-use Rattle.term_value.specs.ReadTrees.{expr_layer, string, variable}
+use Rattle.term_value.specs.Read.{Reading, Read, literal, Piece, Branch, Qualifier, Line, pieces, body}
+use Rattle.term_value.specs.ReadTrees.{expr_layer, string}
 use Rattle.term_value.specs.Tree as tree
 use Rattle.term_value.specs.Local.{EndsRaised}
 use Rattle.term_value.specs.Worked.{int, number, binary}
