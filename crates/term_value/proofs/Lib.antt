@@ -18,3 +18,4 @@ pub mod NameOrder
 pub mod OrderLines
 pub mod Ordered
 pub mod ReadsBack
+pub mod CallLaws

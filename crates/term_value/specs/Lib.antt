@@ -2,6 +2,7 @@ pub mod Arithmetic
 pub mod Bounds
 pub mod BuiltIns
 pub mod Calls
+pub mod CallLaws
 pub mod Characters
 pub mod Decode
 pub mod Encode

@@ -1,4 +1,6 @@
-//! Laws of encoding and decoding, of local states, of orders, of reports and of the order of terms, each the contract of a call.
+//! Laws of encoding and decoding, of calls, of local states, of orders, of reports and of the order of terms, each the
+//! contract of a function.
+ghost use Rattle.term_value.specs.CallLaws.{CallsAreRead};
 ghost use Rattle.term_value.specs.Laws.{CharacterReadsBack, CompleteIsLast, EachAsks, EntryIsLine, EqualIsSame, IntegerReadsBack, LegalIsShort, NamesByCharacters, OneOrder, OrderIsTotal, OutcomeReports};
 
 /// An integer within its bits and the bound is read back from its encoding, whatever bits follow.
@@ -54,4 +56,9 @@ pub fn one_order()
 /// An entry in range is one line.
 pub fn entry_is_line()
     ensures { EntryIsLine }
+{}
+
+/// A call that is checked as a call of a built-in function or of a function of its module is read as a call of just that.
+pub fn calls_are_read()
+    ensures { CallsAreRead }
 {}
