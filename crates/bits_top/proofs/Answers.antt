@@ -2,13 +2,13 @@
 use Rattle.std.proofs.Common.{◌≡◌, ◌⊎◌, ℕ, ◌+◌, ◌≤◌, ◌<◌, List, [], ◌∷◌, ◌++◌, length, Option, Some, None, IfSome, refl, ap, sym, ◌∙◌, inl, inr, arith, codes, decimal, append-nil, length-append, subst}
 use Rattle.std.proofs.lemmas.Fmt.{decimal_injective}
 use Rattle.std.specs.Io.KnownBytes.{Consumes, IsAtEnd}
-use Rattle.bits_top.specs.Answer.{Port, Untouched, IsAccepted, IsRefusedText, IsRefusedWith, IsUnaccepted, IsTable, IsWhole, AnswersRefusal, AnswersAccepted, AnswersRun, AnswersCheck, AnswersOk, CantRun, ChecksWell, IsToldWell, IsSmooth, IsSmoothRefusal, IsDoneOrNoMemory, IsRefusedOrNoMemory, text_limit}
+use Rattle.bits_top.specs.Answer.{Port, Untouched, IsAccepted, IsRefusedText, IsRefusedWith, IsUnaccepted, IsTable, IsWhole, AnswersRefusal, AnswersAccepted, AnswersRun, AnswersCheck, AnswersOk, CantRun, ChecksWell, IsToldWell, IsSmooth, IsSmoothRefusal, IsDoneOrNoMemory, IsRefusedOrNoMemory}
 use Rattle.bits_top.specs.Command.{Spells, SpellsCheck, SpellsRun}
 use Rattle.bits_top.specs.declared.command.Command.{Command}
 use Rattle.bits_top.specs.declared.command.Command.TheVariants as made
 use Rattle.std.proofs.Math.Logic.{∥∥₁_map}
 use Rattle.erl_syntax.specs.Checking.{AreNumbered, HaveNumbers}
-use Rattle.erl_syntax.specs.Reading.{Reads}
+use Rattle.erl_syntax.specs.Reading.{Reads, longest_text}
 use Rattle.erl_syntax.specs.declared.checking.VarUse.{VarUse}
 use Rattle.first_form.specs.TreeOf.{IsForm, IsTreeOf}
 use Rattle.first_form.proofs.Numbered.{have_numbers}
@@ -57,8 +57,8 @@ held_whole (Some xs) None bytes h e = absurd h
 held_whole (Some xs) (Some ys) bytes h e = h ∙ ap (λ l. bytes ++ l) e ∙ append-nil bytes
 
 -- a source that gave more than the limit held more
-pub held_long : (before after : Option (List ℕ)) (bytes : List ℕ) → Consumes before after bytes → text_limit < length bytes →
-    (text : List ℕ) × IfSome before (λ held. held ≡ text) × (text_limit < length text)
+pub held_long : (before after : Option (List ℕ)) (bytes : List ℕ) → Consumes before after bytes → longest_text < length bytes →
+    (text : List ℕ) × IfSome before (λ held. held ≡ text) × (longest_text < length text)
 held_long None after bytes h long = (bytes, tt, long)
 held_long (Some xs) None bytes h long = absurd h
 held_long (Some xs) (Some ys) bytes h long =
@@ -89,7 +89,7 @@ pub same_run_asked : (a b : Run) → made.Run a ≡ made.Run b → a ≡ b
 same_run_asked a b e = cc
 
 -- what was read whole is accepted, or isn't
-pub whole_of : (source : Port) (bytes seen : List ℕ) (m : Module) → seen ≡ bytes → Consumes source.before source.after bytes → IsAtEnd source.after → length bytes ≤ text_limit → Accepts seen m → IsWhole source bytes m
+pub whole_of : (source : Port) (bytes seen : List ℕ) (m : Module) → seen ≡ bytes → Consumes source.before source.after bytes → IsAtEnd source.after → length bytes ≤ longest_text → Accepts seen m → IsWhole source bytes m
 whole_of source bytes seen m same taken end short a = record { held = held_whole source.before source.after bytes taken end; ended = end; short = short; accepts = (let P : List ℕ → Type 0 = λ v. Accepts v m in subst P same a) }
 
 none_accepted : (text : List ℕ) (refusal : Refusal) (line : Vec ℕ Global) → refusal ≡ Line line → (refusal ≡ Memory) ⊎ ((m : Module) → Accepts text m → ⊥) → (m : Module) → Accepts text m → ⊥
@@ -97,7 +97,7 @@ none_accepted text refusal line is (inl e) = cc
 none_accepted text refusal line is (inr f) = f
 
 pub unaccepted : (source : Port) (bytes seen shown : List ℕ) (refusal : Refusal) (line : Vec ℕ Global) → refusal ≡ Line line → seen ≡ bytes → shown ≡ line.items → Consumes source.before source.after bytes → IsAtEnd source.after →
-    length bytes ≤ text_limit → Refuses seen refusal → (refusal ≡ Memory) ⊎ ((m : Module) → Accepts seen m → ⊥) → IsUnaccepted source bytes shown
+    length bytes ≤ longest_text → Refuses seen refusal → (refusal ≡ Memory) ⊎ ((m : Module) → Accepts seen m → ⊥) → IsUnaccepted source bytes shown
 unaccepted source bytes seen shown refusal line is same told taken end short due none =
     let d : IsDue seen line.items = (let P : Refusal → Type 0 = λ r. Refuses seen r in subst P is due) in
     let n : (m : Module) → Accepts seen m → ⊥ = none_accepted seen refusal line is none in
@@ -142,7 +142,7 @@ none_built text tree only spelled none straight form =
     let m = spelled straight form in
     none straight form (subst (λ (t : Module). IsTreeOf t straight) (only m.0 m.1) m.2)
 
-not_both : (text : List ℕ) (m : Module) (straight : Straight) → length text ≤ text_limit → Accepts text m → IsForm text straight → CantRun text → ⊥
+not_both : (text : List ℕ) (m : Module) (straight : Straight) → length text ≤ longest_text → Accepts text m → IsForm text straight → CantRun text → ⊥
 not_both text m straight short a form h = elim h [
   | inl long ↦ omega (arith, long, short)
   | inr w ↦ elim w [
@@ -204,19 +204,19 @@ refused_check OrderFault text line source report read h = h
 refused_check NoMemory text line source report read h = tt
 refused_check BadOrder text line source report read h = h
 
-whole_not : (source : Port) (held text : List ℕ) (m : Module) → source.before ≡ Some text → IsWhole source held m → (text_limit < length text) ⊎ ((n : Module) → Accepts text n → ⊥) → ⊥
+whole_not : (source : Port) (held text : List ℕ) (m : Module) → source.before ≡ Some text → IsWhole source held m → (longest_text < length text) ⊎ ((n : Module) → Accepts text n → ⊥) → ⊥
 whole_not source held text m told w h = let e : text ≡ held = same_text source.before held text told w.held in elim h [
-  | inl long ↦ (let s : length text ≤ text_limit = rw e w.short in omega (arith, long, s))
+  | inl long ↦ (let s : length text ≤ longest_text = rw e w.short in omega (arith, long, s))
   | inr none ↦ none m (rw e w.accepts)
 ]
 
-refused_not : (source : Port) (held line text : List ℕ) (m : Module) → source.before ≡ Some text → IsRefusedText source held line → length text ≤ text_limit → Accepts text m → ⊥
+refused_not : (source : Port) (held line text : List ℕ) (m : Module) → source.before ≡ Some text → IsRefusedText source held line → length text ≤ longest_text → Accepts text m → ⊥
 refused_not source held line text m told h short a = elim h [
-  | inl w ↦ (let e : text ≡ held = same_text source.before held text told w.held in let l : text_limit < length text = rw e w.long in omega (arith, l, short))
+  | inl w ↦ (let e : text ≡ held = same_text source.before held text told w.held in let l : longest_text < length text = rw e w.long in omega (arith, l, short))
   | inr w ↦ (let e : text ≡ held = same_text source.before held text told w.held in let n : (k : Module) → Accepts text k → ⊥ = rw e w.none in n m a)
 ]
 
-check_done : (status : Status) (source report : Port) → AnswersCheck status source report → (text : List ℕ) (m : Module) → IsToldWell source report text → length text ≤ text_limit → Accepts text m → IsDoneOrNoMemory status
+check_done : (status : Status) (source report : Port) → AnswersCheck status source report → (text : List ℕ) (m : Module) → IsToldWell source report text → length text ≤ longest_text → Accepts text m → IsDoneOrNoMemory status
 check_done Done source report h text m w short a = inl refl
 check_done NoMemory source report h text m w short a = inr refl
 check_done Refused source report h text m w short a = absurd (refused_not source h.text h.line text m w.told h.read short a)
@@ -229,7 +229,7 @@ check_done ReportFault source report h text m w short a = elim h [
 check_done OrderFault source report h text m w short a = absurd h
 check_done BadOrder source report h text m w short a = absurd h
 
-check_refused : (status : Status) (source report : Port) → AnswersCheck status source report → (text : List ℕ) → IsToldWell source report text → (text_limit < length text) ⊎ ((m : Module) → Accepts text m → ⊥) → IsRefusedOrNoMemory status
+check_refused : (status : Status) (source report : Port) → AnswersCheck status source report → (text : List ℕ) → IsToldWell source report text → (longest_text < length text) ⊎ ((m : Module) → Accepts text m → ⊥) → IsRefusedOrNoMemory status
 check_refused Done source report h text w r = absurd (whole_not source h.text text h.tree w.told h.whole r)
 check_refused NoMemory source report h text w r = inr refl
 check_refused Refused source report h text w r = inl refl

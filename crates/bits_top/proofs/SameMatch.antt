@@ -94,7 +94,7 @@ built_length (part ∷ ps) =
     ap length (flat_map-cons (λ p. spell (part_size p.bits) (pos p.value) Big) part ps)
     ∙ omega (arith, part_sum part ps, built_length ps, length-append bits (parts_as_bits ps), length-spell (part_size part.bits) (pos part.value) Big)
 
-pub prim_parts : (s : Setting) (ps : List Part) → parts_bits ps ≤ 134_217_728 →
+pub prim_parts : (s : Setting) (ps : List Part) → parts_bits ps ≤ bit_bound →
     prim s (Build (types (map part_piece ps))) (part_values ps) ≡ Gives (VBits (parts_as_bits ps))
 prim_parts s ps h =
     let b : List Bool = parts_as_bits ps in

@@ -13,7 +13,8 @@ use Rattle.term_value.specs.Tree.{Call, All as Form, end, Module}
 use Rattle.term_value.specs.Texts.{text, atom_text}
 use Rattle.term_value.specs.Step.{Show, name_in}
 use Rattle.term_value.specs.Local.{Local, Outcome, Wants, EndsDone, EndsRaised, ask_of}
-use Rattle.term_value.specs.Machine.{End, Exit, Process, Running, Over, Left, Machine, atom_from, first_of, start_of, apply, after, Legal, IsLegal, AllGone}
+use Rattle.erl_syntax.specs.Reading.{number_in}
+use Rattle.term_value.specs.Machine.{End, Exit, Process, Running, Over, Left, Machine, first_of, start_of, apply, after, Legal, IsLegal, AllGone}
 use Rattle.term_value.specs.Machine as machine
 use Rattle.term_value.specs.Orders.{order_text}
 use Rattle.term_value.specs.Reports as reports
@@ -112,7 +113,7 @@ lines code r shown how spelled =
 
 -- the whole run
 
-whole_start : (number : ℕ → ℕ) (atoms : List (List ℕ)) (name main : ℕ) (s : Straight) (r : ℕ) → atom_from 0 atoms (codes "main") ≡ main →
+whole_start : (number : ℕ → ℕ) (atoms : List (List ℕ)) (name main : ℕ) (s : Straight) (r : ℕ) → number_in atoms (codes "main") ≡ main →
     start_of (module_by number atoms name main s) r ≡ whole_at (module_by number atoms name main s) r (Running (standing r (Form (Call 0) end)) []) []
 whole_start number atoms name main s r called =
     let code : Module = module_by number atoms name main s in
@@ -121,7 +122,7 @@ whole_start number atoms name main s r called =
 
 -- whatever the numbers of the variables, where they are different ones
 pub same_run : (number : ℕ → ℕ) (atoms others : List (List ℕ)) (name main : ℕ) (s : Straight) (r : ℕ) (outcome : ran.Outcome) (order report : List ℕ) → AreApart number s →
-    atoms ≡ fixed_atoms ++ others → atom_from 0 atoms (codes "main") ≡ main → IsStraight s → All IsShort s.items → 1 ≤ r → HasRun s r outcome → order ≡ order_text outcome.entries →
+    atoms ≡ fixed_atoms ++ others → number_in atoms (codes "main") ≡ main → IsStraight s → All IsShort s.items → 1 ≤ r → HasRun s r outcome → order ≡ order_text outcome.entries →
     report ≡ report_of outcome.shown outcome.ending → IsRunOf (module_by number atoms name main s) r order report
 same_run number atoms others name main s zero outcome order report apart table called formed short some run ordered reported = absurd (omega (arith, some))
 same_run number atoms others name main s (suc left) outcome order report apart table called formed short some run ordered reported =

@@ -5,6 +5,7 @@ use Rattle.std.proofs.lemmas.Bool.Decides.{nat_tests}
 use Rattle.std.proofs.lemmas.List.{map-append}
 use Rattle.std.proofs.lemmas.List.Elements.{All-head, All-tail}
 use Rattle.erl_syntax.specs.Atoms.{a_reductions}
+use Rattle.term_value.specs.Bounds.{bit_bound}
 use Rattle.term_value.specs.Value.{Value, Values, none, more, VInt, VAtom, VBits}
 use Rattle.term_value.specs.Result.{raise}
 use Rattle.term_value.specs.Tree.{Bound, Table, Build, Call, Display, Tree, Val, All as Form, First, end, and, Shut, Then, Last, PBits, Patterns, no_pattern, pattern_and, Module}
@@ -70,7 +71,7 @@ steps_ready w (more v vs) = rw (steps_ready w vs) refl
 abbrev pub building : List Part → Tree
 building ps = Form (Table (Build (types (map part_piece ps)))) (value_trees (part_values ps))
 
-builds : (w : World) (ps : List Part) (rest : Shut) → parts_bits ps ≤ 134_217_728 → step w (First (building ps) rest) ≡ Goes 0 (First (Val (VBits (parts_as_bits ps))) rest)
+builds : (w : World) (ps : List Part) (rest : Shut) → parts_bits ps ≤ bit_bound → step w (First (building ps) rest) ≡ Goes 0 (First (Val (VBits (parts_as_bits ps))) rest)
 builds w ps rest h = rw (steps_ready w (part_values ps), prim_parts (setting w) ps h) refl
 
 -- the patterns of an item that matches

@@ -5,7 +5,7 @@ use Rattle.io_ports.specs.Causes.{Rose}
 use Rattle.bits_top.specs.Stream.{AppendsPrefix}
 use Rattle.erl_syntax.specs.Atoms.{fixed_atoms}
 use Rattle.erl_syntax.specs.Checking.{AreNumbersOf, HaveNumbers}
-use Rattle.erl_syntax.specs.Reading.{StandOnce}
+use Rattle.erl_syntax.specs.Reading.{StandOnce, longest_text}
 use Rattle.erl_syntax.specs.declared.module.Module.{Module}
 use Rattle.erl_syntax.specs.declared.span.Span.{Span}
 use Rattle.module_accept.specs.Accepting.{Accepts, IsDue}
@@ -47,15 +47,11 @@ Took p bytes = Appends p.before p.after bytes
 abbrev pub TookFront : Port → List ℕ → Type 0
 TookFront p bytes = AppendsPrefix p.before p.after bytes
 
--- the most bytes that a module's text may have
-abbrev pub text_limit : ℕ
-text_limit = 1_048_576
-
 -- The source was read to its end, and its text is that of an accepted module.
 pub record IsWhole (source : Port) (text : List ℕ) (m : Module) : Type 0 where
   pub held : Held source text
   pub ended : IsAtEnd source.after
-  pub short : length text ≤ text_limit
+  pub short : length text ≤ longest_text
   pub accepts : Accepts text m
 
 -- So it is, and the text has today's form; and the module's variables have numbers.
@@ -67,14 +63,14 @@ pub record IsAccepted (source : Port) (text : List ℕ) (tree : Module) : Type 0
 
 pub record IsTooLong (source : Port) (text line : List ℕ) : Type 0 where
   pub held : Held source text
-  pub long : text_limit < length text
+  pub long : longest_text < length text
   pub due : line ≡ codes "1:1: text too long\n"
 
 -- The source was read to its end, and its text is that of no accepted module: the line tells its first fault.
 pub record IsUnaccepted (source : Port) (text line : List ℕ) : Type 0 where
   pub held : Held source text
   pub ended : IsAtEnd source.after
-  pub short : length text ≤ text_limit
+  pub short : length text ≤ longest_text
   pub none : (m : Module) → Accepts text m → ⊥
   pub due : IsDue text line
 
@@ -232,7 +228,7 @@ pub record AreWell (source report order : Port) : Type 0 where
 pub record IsSmooth (source report order : Port) : Type 0 where
   pub text : List ℕ
   pub told : source.before ≡ Some text
-  pub short : length text ≤ text_limit
+  pub short : length text ≤ longest_text
   pub tree : Module
   pub accepts : Accepts text tree
   pub straight : Straight
@@ -241,7 +237,7 @@ pub record IsSmooth (source report order : Port) : Type 0 where
 
 -- a text that can't be run: it is too long, or no accepted module's, or hasn't today's form
 abbrev pub CantRun : List ℕ → Type 0
-CantRun text = (text_limit < length text) ⊎ (((m : Module) → Accepts text m → ⊥) ⊎ ((straight : Straight) → IsForm text straight → ⊥))
+CantRun text = (longest_text < length text) ⊎ (((m : Module) → Accepts text m → ⊥) ⊎ ((straight : Straight) → IsForm text straight → ⊥))
 
 -- The source tells a text that can't be run, and no count rises.
 pub record IsSmoothRefusal (source report order : Port) : Type 0 where
@@ -322,5 +318,5 @@ pub record IsToldWell (source report : Port) (text : List ℕ) : Type 0 where
 
 -- `check` finds an accepted module accepted, and refuses every other text.
 pub record ChecksWell (status : Status) (source report : Port) : Type 0 where
-  pub accepts : (text : List ℕ) (m : Module) → IsToldWell source report text → length text ≤ text_limit → Accepts text m → IsDoneOrNoMemory status
-  pub refuses : (text : List ℕ) → IsToldWell source report text → (text_limit < length text) ⊎ ((m : Module) → Accepts text m → ⊥) → IsRefusedOrNoMemory status
+  pub accepts : (text : List ℕ) (m : Module) → IsToldWell source report text → length text ≤ longest_text → Accepts text m → IsDoneOrNoMemory status
+  pub refuses : (text : List ℕ) → IsToldWell source report text → (longest_text < length text) ⊎ ((m : Module) → Accepts text m → ⊥) → IsRefusedOrNoMemory status

@@ -3,6 +3,7 @@ ghost use Rattle.std.specs.Prelude.{◌≡◌, ◌≤◌, ◌+◌, ◌*◌, ◌/
 ghost use Rattle.bits_value.specs.Bits.{all_bits, bit_list};
 ghost use Rattle.bits_value.specs.Number.{natural, spell};
 ghost use Rattle.first_form.specs.Form.{IsField, fields_bits, part_size, parts_bits};
+ghost use Rattle.term_value.specs.Bounds.{bit_bound};
 ghost use Rattle.bits_top.specs.Runs.{parts_as_bits, decoded};
 
 use bits_value::{Bits, Endian, put};
@@ -25,7 +26,7 @@ fn size(part: &Part) -> u32
 
 // The bits of the parts together.
 fn total(parts: &[Part]) -> u32
-    requires { parts_bits parts.now ≤ 134_217_728 }
+    requires { parts_bits parts.now ≤ bit_bound }
     ensures { result ≡ parts_bits parts.now }
 {
     let mut total = 0;
@@ -47,7 +48,7 @@ fn write(bytes: &mut Vec<u8>, at: u32, part: &Part)
 // The bits of a bit expression, from the front of the bytes on.
 #[tactic(auto, using(crate::proofs::Binding::parts_fit))]
 fn build(alloc: Global, parts: &[Part]) -> Result<Vec<u8>, AllocError>
-    requires { parts_bits parts.now ≤ 134_217_728 }
+    requires { parts_bits parts.now ≤ bit_bound }
     ensures room { IfOk result (λ bytes. parts_bits parts.now ≤ 8 * length bytes.items) }
     ensures bits { IfOk result (λ bytes. take (parts_bits parts.now) (all_bits bytes.items) ≡ parts_as_bits parts.now) }
 {
@@ -89,7 +90,7 @@ fn binding_of(bits: &Bits, at: u32, field: &Field) -> Binding
 // Binds each field's variable to the integer of its bits, from the front on.
 #[tactic(auto, using(crate::proofs::Binding::fields_fit))]
 fn decode(bits: &Bits, fields: &[Field], bindings: &mut Vec<Binding>) -> Result<(), AllocError>
-    requires short { fields_bits fields.now ≤ 134_217_728 }
+    requires short { fields_bits fields.now ≤ bit_bound }
     requires enough { fields_bits fields.now ≤ length bits.now }
     requires fit { All IsField fields.now }
     ensures { OnOk result (bindings.new.items ≡ bindings.old.items ++ decoded fields.now bits.now) }
@@ -109,7 +110,7 @@ pub(crate) fn bind(
     parts: &[Part],
     bindings: &mut Vec<Binding>,
 ) -> Result<(), AllocError>
-    requires short { parts_bits parts.now ≤ 134_217_728 }
+    requires short { parts_bits parts.now ≤ bit_bound }
     requires even { fields_bits fields.now ≡ parts_bits parts.now }
     requires fit { All IsField fields.now }
     ensures { OnOk result (bindings.new.items ≡ bindings.old.items ++ decoded fields.now (parts_as_bits parts.now)) }

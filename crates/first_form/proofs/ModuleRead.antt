@@ -30,7 +30,7 @@ use Rattle.first_form.specs.declared.form.Field.{Field}
 use Rattle.first_form.specs.declared.form.Item.{Item}
 use Rattle.first_form.specs.declared.form.Straight.{Straight}
 use Rattle.first_form.proofs.Places.{among_head, place_in, found_in, place_before, Standing, standing, same_front, same_middle, rising_bound, same_name}
-use Rattle.first_form.proofs.NamesRead.{spelled_name, spelled_number, spelled_once, from_number}
+use Rattle.first_form.proofs.NamesRead.{spelled_name, spelled_number, spelled_once}
 use Rattle.first_form.proofs.TreesRead.{AreNamed, match_read, display_read, no_guard_read}
 use Rattle.first_form.proofs.Walked.{sole, in_sole, AreFound, fields_found, IsBinder, fields_bind, match_targets, no_targets, known_past, item_names, items_names, items_places}
 
@@ -239,6 +239,6 @@ module _ (number_at : Span → ℕ) (m : Module) (s : Straight) (t : IsTreeOf m 
     name = t.head.name;
     main = t.function.name;
     apart = apart;
-    first = from_number 0 m.atoms (codes "main") ∙ (let n : number_in m.atoms (codes "main") ≡ t.function.name = spelled_number m t.function.name (codes "main") t.main once in omega arith);
+    first = spelled_number m t.function.name (codes "main") t.main once;
     is = module_read;
   }

@@ -1,12 +1,9 @@
 -- An atom's number in a table in which each stands once.
-use Rattle.std.proofs.Common.{◌≡◌, ℕ, ◌+◌, ◌<◌, Bool, true, false, cond, if◌then◌else◌, List, [], ◌∷◌, ◌++◌, length, slice_index_or, sym, ap, ◌∙◌, arith, length-append}
-use Rattle.std.specs.Str.{bytes_eq}
+use Rattle.std.proofs.Common.{◌≡◌, ℕ, ◌+◌, ◌<◌, List, [], ◌∷◌, ◌++◌, length, slice_index_or, sym, ap, ◌∙◌, arith, length-append}
 use Rattle.std.proofs.Math.Seq.{get_or-append_seam}
-use Rattle.std.proofs.lemmas.Map.Text.{is_eq-slice_cmp}
 use Rattle.erl_syntax.specs.Checking.{Spelled}
 use Rattle.erl_syntax.specs.Reading.{number_in, StandOnce}
 use Rattle.erl_syntax.specs.declared.module.Module.{Module}
-use Rattle.term_value.specs.Machine.{atom_from}
 
 module _ (m : Module) (atom : ℕ) (chars : List ℕ) (s : Spelled m atom chars) where
   pub spelled_name : slice_index_or m.atoms atom [] ≡ chars
@@ -25,14 +22,3 @@ module _ (m : Module) (atom : ℕ) (chars : List ℕ) (s : Spelled m atom chars)
 -- atoms that are spelled alike are one
 pub spelled_once : (m : Module) (a b : ℕ) (chars : List ℕ) → StandOnce m.atoms → Spelled m a chars → Spelled m b chars → a ≡ b
 spelled_once m a b chars once s t = sym (spelled_number m a chars s once) ∙ spelled_number m b chars t once
-
--- the machine's number of an atom
-pub from_number : (n : ℕ) (atoms : List (List ℕ)) (chars : List ℕ) → atom_from n atoms chars ≡ n + number_in atoms chars
-from_number n [] chars = omega arith
-from_number n (atom ∷ atoms) chars =
-    let ih : atom_from (n + 1) atoms chars ≡ (n + 1) + number_in atoms chars = from_number (n + 1) atoms chars in
-    ap (λ t. cond t n (atom_from (n + 1) atoms chars)) (is_eq-slice_cmp atom chars) ∙ by (bytes_eq atom chars) ih
-  where
-    by : (t : Bool) → atom_from (n + 1) atoms chars ≡ (n + 1) + number_in atoms chars → cond t n (atom_from (n + 1) atoms chars) ≡ n + (if t then 0 else 1 + number_in atoms chars)
-    by true ih = omega arith
-    by false ih = omega arith

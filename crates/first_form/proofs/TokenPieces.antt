@@ -19,7 +19,7 @@ use Rattle.erl_syntax.specs.Characters.{atom_text, is_digit, number, number_afte
 use Rattle.erl_syntax.specs.Spellings.{spelling, is_spelled}
 use Rattle.erl_syntax.specs.Tokens.{piece, white_len, begins_name, is_name, name, integer_at, digits_len}
 use Rattle.erl_tokens.proofs.Spelled.{is_other}
-use Rattle.first_form.specs.Form.{IsName, reserved}
+use Rattle.first_form.specs.Form.{IsName}
 
 -- ---- No white space
 
@@ -90,11 +90,8 @@ not_spelled (kind ∷ kinds) word h =
     none_by kind kinds word (is_spelled word kind) refl (λ e. h (contained_by kind kinds word (inl e)))
     (not_spelled kinds word (λ c. h (contained_by kind kinds word (inr c))))
 
-reserved_spelled : reserved ≡ map spelling RESERVED
-reserved_spelled = refl
-
 free_name : (word : List ℕ) → IsName word → find (is_spelled word) RESERVED ≡ None
-free_name word h = not_spelled RESERVED word (λ c. h.free (subst (λ (xs : List (List ℕ)). Contains xs word) (sym reserved_spelled) c))
+free_name word h = not_spelled RESERVED word h.free
 
 atom_front : (x : ℕ) (xs : List ℕ) → IsName (x ∷ xs) → AllByRecursion IsLetter (x ∷ xs) → piece false (x ∷ xs) ≡ p.Token k.Atom (length (x ∷ xs))
 atom_front x xs h a =

@@ -1,6 +1,9 @@
 -- The form of the modules that can be run today (this project's own part of the Erlang Reference Manual's "Modules", "Bit
 -- Syntax Expressions" and "Expressions").
-use Rattle.std.specs.Prelude.{◌≡◌, ℕ, ◌≤◌, ◌<◌, List, [], ◌∷◌, ◌++◌, length, map, codes, All, Contains, sum_by, Option, Some, None}
+use Rattle.std.specs.Prelude.{◌≡◌, ℕ, ◌≤◌, ◌<◌, List, [], ◌∷◌, ◌++◌, length, map, All, Contains, sum_by, Option, Some, None}
+use Rattle.erl_syntax.specs.Spellings.{spelling}
+use Rattle.erl_syntax.specs.declared.token.TheConstants.{RESERVED}
+use Rattle.term_value.specs.Bounds.{bit_bound}
 use Rattle.first_form.specs.declared.form.Field.{Field}
 use Rattle.first_form.specs.declared.form.Part.{Part}
 use Rattle.first_form.specs.declared.form.Item.{Item}
@@ -9,9 +12,7 @@ use Rattle.first_form.specs.declared.form.Straight.{Straight}
 
 -- the words that are no atoms ("Reserved Words")
 abbrev pub reserved : List (List ℕ)
-reserved = codes "after" ∷ codes "and" ∷ codes "andalso" ∷ codes "band" ∷ codes "begin" ∷ codes "bnot" ∷ codes "bor" ∷ codes "bsl" ∷ codes "bsr"
-    ∷ codes "bxor" ∷ codes "case" ∷ codes "catch" ∷ codes "cond" ∷ codes "div" ∷ codes "end" ∷ codes "fun" ∷ codes "if" ∷ codes "let" ∷ codes "not"
-    ∷ codes "of" ∷ codes "or" ∷ codes "orelse" ∷ codes "receive" ∷ codes "rem" ∷ codes "try" ∷ codes "when" ∷ codes "xor" ∷ []
+reserved = map spelling RESERVED
 
 -- an atom of 1 to 20 letters
 pub record IsName (name : List ℕ) : Type 0 where
@@ -81,5 +82,5 @@ pub record IsStraight (straight : Straight) : Type 0 where
 
 -- within the bound of a bitstring
 abbrev pub IsShort : Item → Type 0
-IsShort (Match fields parts) = parts_bits parts ≤ 134_217_728
+IsShort (Match fields parts) = parts_bits parts ≤ bit_bound
 IsShort (Display variable) = Unit {0}

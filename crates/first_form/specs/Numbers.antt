@@ -1,10 +1,10 @@
 -- The numbers of a function's variables, and a module of today's form as the whole language reads it (Erlang Reference
 -- Manual, "Expressions": "Variables"; the form is this project's own).
 use Rattle.std.specs.Prelude.{◌≡◌, ℕ, codes}
+use Rattle.erl_syntax.specs.Reading.{number_in}
 use Rattle.erl_syntax.specs.declared.span.Span.{Span}
 use Rattle.erl_syntax.specs.declared.module.Module.{Module}
 use Rattle.term_value.specs.ReadTrees.{module_of}
-use Rattle.term_value.specs.Machine.{atom_from}
 use Rattle.first_form.specs.Whole.{module_by, AreApart}
 use Rattle.first_form.specs.declared.form.Straight.{Straight}
 
@@ -15,5 +15,5 @@ pub record IsReadAs (number_at : Span → ℕ) (m : Module) (straight : Straight
   pub name : ℕ
   pub main : ℕ
   pub apart : AreApart number straight
-  pub first : atom_from 0 m.atoms (codes "main") ≡ main
+  pub first : number_in m.atoms (codes "main") ≡ main
   pub is : module_of number_at m ≡ module_by number m.atoms name main straight

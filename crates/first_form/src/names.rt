@@ -2,18 +2,13 @@
 ghost use Rattle.std.specs.Prelude.{IsTrue, ◌↔◌, Contains};
 ghost use Rattle.first_form.specs.Form.{IsName, reserved};
 
-// The words that are no atoms.
-const RESERVED: [&str; 27] = [
-    "after", "and", "andalso", "band", "begin", "bnot", "bor", "bsl", "bsr", "bxor", "case",
-    "catch", "cond", "div", "end", "fun", "if", "let", "not", "of", "or", "orelse", "receive",
-    "rem", "try", "when", "xor",
-];
+use erl_syntax::RESERVED;
 
 // Whether a word is one of the words that are no atoms.
 fn is_reserved(word: &[u8]) -> bool
     ensures { IsTrue result ↔ Contains reserved word.now }
 {
-    RESERVED.iter().any(|reserved| reserved.as_bytes() == word)
+    RESERVED.iter().any(|reserved| reserved.spelling() == word)
 }
 
 // Whether a word is an atom of 1 to 20 letters.
