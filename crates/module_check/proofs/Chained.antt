@@ -1,4 +1,4 @@
--- Scopes that share their ends.
+-- What is known and what is unsafe, by trees of names.
 use Rattle.std.proofs.Common.{◌≡◌, ℕ, ◌+◌, ◌<◌, ◌≤◌, Bool, true, false, List, [], ◌∷◌, ◌++◌, length, get_or, refl, sym, ◌∙◌, ap, subst, ◌⊎◌, inl, inr, take, drop}
 use Rattle.std.specs.List.{Contains}
 use Rattle.std.specs.Str.{bytes_eq}
@@ -10,7 +10,7 @@ use Rattle.erl_syntax.specs.Scopes.{Danger, Found, IsKnown, IsUnsafe}
 use Rattle.erl_syntax.specs.declared.span.Span.{Span}
 use Rattle.module_check.specs.declared.trees.Node.{Node}
 use Rattle.module_check.specs.declared.scopes.Target.{Target}
-use Rattle.module_check.specs.Nodes.{Chain, none, Agree, Sees, SeesUnsafe, Grown, bound_of, bounds_of}
+use Rattle.module_check.specs.Nodes.{TreeOf, none, Agree, Sees, SeesUnsafe, Grown, bound_of, bounds_of}
 use Rattle.module_check.proofs.Spots.{Contains-head, Contains-tail, none_in, only_one}
 use Rattle.module_check.proofs.Standing.{found_place, known_found}
 use Rattle.module_check.proofs.Forked.{tree_grown}
@@ -109,11 +109,11 @@ agree_unknown bs b k = record {
   ];
 }
 
--- nodes that are added change no chain
-pub chain_grown : (old new : List Node) → Grown old new → (k : ℕ) (bs : List Bound) → Chain old k bs → Chain new k bs
+-- nodes that are added change no tree
+pub chain_grown : (old new : List Node) → Grown old new → (k : ℕ) (bs : List Bound) → TreeOf old k bs → TreeOf new k bs
 chain_grown old new g k bs h = record { sorted = h.sorted; tree = tree_grown old new g k h.sorted h.tree; rising = h.rising; same = h.same }
 
-pub chain_none : (nodes : List Node) → Chain nodes 0 []
+pub chain_none : (nodes : List Node) → TreeOf nodes 0 []
 chain_none nodes = record { sorted = []; tree = none; rising = tt; same = itself [] }
 
 pub grown_twice : (a b c : List Node) → Grown a b → Grown b c → Grown a c
@@ -157,7 +157,7 @@ endanger_known nodes k ds bs name h s =
       from = λ n z. elim (unsafe_split ds d n z) [ inl i ↦ i | inr i ↦ absurd (i.1 (let P : List ℕ → Type 0 = λ v. IsKnown bs v in subst P (only_one name n i.0) h)) ];
     }) s
 
-pub endanger_new : (old new : List Node) (k last : ℕ) (ds : List Danger) (bs : List Bound) (name : List ℕ) (at : Span) → (IsKnown bs name → ⊥) → SeesUnsafe old k ds → ((cs : List Bound) → Chain old k cs → Chain new last (record { name = name; at = at } ∷ cs)) → SeesUnsafe new last (ds ++ record { left_unsafe = name ∷ []; known = bs } ∷ [])
+pub endanger_new : (old new : List Node) (k last : ℕ) (ds : List Danger) (bs : List Bound) (name : List ℕ) (at : Span) → (IsKnown bs name → ⊥) → SeesUnsafe old k ds → ((cs : List Bound) → TreeOf old k cs → TreeOf new last (record { name = name; at = at } ∷ cs)) → SeesUnsafe new last (ds ++ record { left_unsafe = name ∷ []; known = bs } ∷ [])
 endanger_new old new k last ds bs name at h s put =
     let d : Danger = record { left_unsafe = name ∷ []; known = bs } in
     record {
@@ -204,7 +204,7 @@ danger_more ds bs ns name =
       ];
     }
 
-pub sees_put : (old new : List Node) (k last : ℕ) (bs : List Bound) (name : List ℕ) (at : Span) → Sees old k bs → ((cs : List Bound) → Chain old k cs → Chain new last (record { name = name; at = at } ∷ cs)) → Sees new last (record { name = name; at = at } ∷ bs)
+pub sees_put : (old new : List Node) (k last : ℕ) (bs : List Bound) (name : List ℕ) (at : Span) → Sees old k bs → ((cs : List Bound) → TreeOf old k cs → TreeOf new last (record { name = name; at = at } ∷ cs)) → Sees new last (record { name = name; at = at } ∷ bs)
 sees_put old new k last bs name at s put =
     let b : Bound = record { name = name; at = at } in
     record { chain = b ∷ s.chain; stands = put s.chain s.stands; same = agree_joined (b ∷ []) (b ∷ []) s.chain bs (itself (b ∷ [])) s.same }
@@ -212,11 +212,11 @@ sees_put old new k last bs name at s put =
 pub sees_agree : (nodes : List Node) (k : ℕ) (bs cs : List Bound) → Sees nodes k bs → Agree bs cs → Sees nodes k cs
 sees_agree nodes k bs cs s a = record { chain = s.chain; stands = s.stands; same = chained s.chain bs cs s.same a }
 
-pub append_known : (nodes : List Node) (k : ℕ) (name : List ℕ) (at az : Span) (bs : List Bound) → ((cs : List Bound) → Chain nodes k cs → Found cs name az) → Sees nodes k bs → Sees nodes k (bs ++ record { name = name; at = at } ∷ [])
+pub append_known : (nodes : List Node) (k : ℕ) (name : List ℕ) (at az : Span) (bs : List Bound) → ((cs : List Bound) → TreeOf nodes k cs → Found cs name az) → Sees nodes k bs → Sees nodes k (bs ++ record { name = name; at = at } ∷ [])
 append_known nodes k name at az bs f s =
     sees_agree nodes k bs (bs ++ record { name = name; at = at } ∷ []) s (agree_known bs (record { name = name; at = at }) (same_known s.chain bs name s.same (found_known s.chain name az (f s.chain s.stands))))
 
-pub append_new : (old new : List Node) (k last : ℕ) (name : List ℕ) (at : Span) (bs : List Bound) → ((cs : List Bound) → Chain old k cs → IsKnown cs name → ⊥) → ((cs : List Bound) → Chain old k cs → Chain new last (record { name = name; at = at } ∷ cs)) → Sees old k bs → Sees new last (bs ++ record { name = name; at = at } ∷ [])
+pub append_new : (old new : List Node) (k last : ℕ) (name : List ℕ) (at : Span) (bs : List Bound) → ((cs : List Bound) → TreeOf old k cs → IsKnown cs name → ⊥) → ((cs : List Bound) → TreeOf old k cs → TreeOf new last (record { name = name; at = at } ∷ cs)) → Sees old k bs → Sees new last (bs ++ record { name = name; at = at } ∷ [])
 append_new old new k last name at bs f put s =
     sees_agree new last (record { name = name; at = at } ∷ bs) (bs ++ record { name = name; at = at } ∷ []) (sees_put old new k last bs name at s put)
     (agree_unknown bs (record { name = name; at = at }) (λ h. f s.chain s.stands (same_known bs s.chain name (flip s.chain bs s.same) h)))

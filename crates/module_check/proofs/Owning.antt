@@ -28,18 +28,18 @@ use Rattle.erl_syntax.specs.declared.checking.CheckCause.TheVariants as c
 use Rattle.erl_syntax.specs.declared.checking.CheckFault.{CheckFault}
 use Rattle.module_check.specs.declared.trees.Node.{Node}
 use Rattle.module_check.specs.Order.{segment_rank, rank, IsLeast, IsFirstOf, fault_if}
-use Rattle.module_check.specs.Nodes.{Chain, Sees, SeesUnsafe}
+use Rattle.module_check.specs.Nodes.{TreeOf, Sees, SeesUnsafe}
 use Rattle.module_check.specs.Faults.{UnsafeFault, ReadFault, CallFault, ExprFault, PatternFault, TargetFault, TypeFault, SegmentFault, Own}
 use Rattle.module_check.proofs.Firsts.{least_if, least_of_both}
 use Rattle.module_check.proofs.Chained.{found_known, same_known, flip}
 use Rattle.std.specs.Option.{MatchOption, is_some}
 
 -- what a test of a node says of the scope
-pub unsafe_by : (nodes : List Node) (k : ℕ) (s : Scope) (name : List ℕ) (r : Bool) → ((bs : List Bound) → Chain nodes k bs → MatchBool r (IsKnown bs name) (IsKnown bs name → ⊥)) → SeesUnsafe nodes k s.dangers → MatchBool r (IsUnsafe s.dangers name) (IsUnsafe s.dangers name → ⊥)
+pub unsafe_by : (nodes : List Node) (k : ℕ) (s : Scope) (name : List ℕ) (r : Bool) → ((bs : List Bound) → TreeOf nodes k bs → MatchBool r (IsKnown bs name) (IsKnown bs name → ⊥)) → SeesUnsafe nodes k s.dangers → MatchBool r (IsUnsafe s.dangers name) (IsUnsafe s.dangers name → ⊥)
 unsafe_by nodes k s name true h u = u.to name (h u.chain u.stands)
 unsafe_by nodes k s name false h u = λ z. h u.chain u.stands (u.from name z)
 
-pub known_by : (nodes : List Node) (k : ℕ) (known : List Bound) (name : List ℕ) (r : Bool) → ((bs : List Bound) → Chain nodes k bs → MatchBool r (IsKnown bs name) (IsKnown bs name → ⊥)) → Sees nodes k known → MatchBool r (IsKnown known name) (IsKnown known name → ⊥)
+pub known_by : (nodes : List Node) (k : ℕ) (known : List Bound) (name : List ℕ) (r : Bool) → ((bs : List Bound) → TreeOf nodes k bs → MatchBool r (IsKnown bs name) (IsKnown bs name → ⊥)) → Sees nodes k known → MatchBool r (IsKnown known name) (IsKnown known name → ⊥)
 known_by nodes k known name true h u = same_known u.chain known name u.same (h u.chain u.stands)
 known_by nodes k known name false h u = λ z. h u.chain u.stands (same_known known u.chain name (flip u.chain known u.same) z)
 
@@ -49,7 +49,7 @@ neither P Q true false h k = λ z. z.0 h
 neither P Q false true h k = λ z. z.1 k
 neither P Q false false h k = (h, k)
 
-pub unsafe_least : (nodes : List Node) (k : ℕ) (at : Span) (name : List ℕ) (put : Bool) (r : Option CheckFault) → ((bs : List Bound) → Chain nodes k bs → MatchBool put (IsKnown bs name) (IsKnown bs name → ⊥)) → r ≡ fault_if put at c.UnsafeVariable → (s : Scope) → SeesUnsafe nodes k s.dangers → IsLeast (UnsafeFault s at name) r
+pub unsafe_least : (nodes : List Node) (k : ℕ) (at : Span) (name : List ℕ) (put : Bool) (r : Option CheckFault) → ((bs : List Bound) → TreeOf nodes k bs → MatchBool put (IsKnown bs name) (IsKnown bs name → ⊥)) → r ≡ fault_if put at c.UnsafeVariable → (s : Scope) → SeesUnsafe nodes k s.dangers → IsLeast (UnsafeFault s at name) r
 unsafe_least nodes k at name put r h e s u = least_if put (IsUnsafe s.dangers name) at c.UnsafeVariable r (unsafe_by nodes k s name put h u) e
 
 -- the form of a part
@@ -162,6 +162,6 @@ side_generator s on last sg a b r e h k g =
 pub own_part : (m : Module) (s : Scope) (y z : Scopes.Part) (r : Option CheckFault) → z ≡ y → IsLeast (Own m s z) r → IsLeast (Own m s y) r
 own_part m s y z r e h = let P : Scopes.Part → Type 0 = λ v. IsLeast (Own m s v) r in subst P e h
 
-pub put_by : (nodes : List Node) (k : ℕ) (name : List ℕ) (r : Option Span) (b : Bool) → b ≡ is_some r → ((bs : List Bound) → Chain nodes k bs → MatchOption r (IsKnown bs name → ⊥) (λ at. Found bs name at)) → (bs : List Bound) → Chain nodes k bs → MatchBool b (IsKnown bs name) (IsKnown bs name → ⊥)
+pub put_by : (nodes : List Node) (k : ℕ) (name : List ℕ) (r : Option Span) (b : Bool) → b ≡ is_some r → ((bs : List Bound) → TreeOf nodes k bs → MatchOption r (IsKnown bs name → ⊥) (λ at. Found bs name at)) → (bs : List Bound) → TreeOf nodes k bs → MatchBool b (IsKnown bs name) (IsKnown bs name → ⊥)
 put_by nodes k name None b e h bs ch = let P : Bool → Type 0 = λ v. MatchBool v (IsKnown bs name) (IsKnown bs name → ⊥) in subst P (sym e) (h bs ch)
 put_by nodes k name (Some at) b e h bs ch = let P : Bool → Type 0 = λ v. MatchBool v (IsKnown bs name) (IsKnown bs name → ⊥) in subst P (sym e) (found_known bs name at (h bs ch))

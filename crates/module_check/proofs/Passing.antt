@@ -19,7 +19,7 @@ use Rattle.erl_syntax.specs.Scopes.{Danger}
 use Rattle.erl_syntax.specs.Bindings.{vars_of, new_names, qual_unsafe}
 use Rattle.module_check.specs.declared.trees.Node.{Node}
 use Rattle.module_check.specs.declared.tasks.Setting.{Setting}
-use Rattle.module_check.specs.Nodes.{Agree, Sees, SeesUnsafe, Grown, Chain}
+use Rattle.module_check.specs.Nodes.{Agree, Sees, SeesUnsafe, Grown, TreeOf}
 use Rattle.module_check.specs.Tasks.{Means, SeesSizes}
 use Rattle.module_check.proofs.Chained.{sees_grown, unsafe_grown, itself}
 use Rattle.std.proofs.lemmas.List.{length-drop}
@@ -139,8 +139,8 @@ agree_moved p xs ys h = record {
     ]
 
 pub pass_on : (n0 n1 n2 : List Node) (t : Setting) (known sizes : ℕ) (b : Bound) (place : Span) (s : Scope) (bs : List Bound) → Grown n0 n1 → Grown n1 n2
-    → ((ks : List Bound) → Sees n0 t.known ks → Sees n1 known (ks ++ b ∷ [])) → ((cs : List Bound) → Chain n1 known cs → Found cs b.name place)
-    → ((cs : List Bound) → Chain n1 t.sizes cs → Chain n2 sizes (record { name = b.name; at = place } ∷ cs))
+    → ((ks : List Bound) → Sees n0 t.known ks → Sees n1 known (ks ++ b ∷ [])) → ((cs : List Bound) → TreeOf n1 known cs → Found cs b.name place)
+    → ((cs : List Bound) → TreeOf n1 t.sizes cs → TreeOf n2 sizes (record { name = b.name; at = place } ∷ cs))
     → Passes n0 t (passed bs s) → Passes n2 (record t { known = known; sizes = sizes }) (passed (bs ++ b ∷ []) s)
 pass_on n0 n1 n2 t known sizes b place s bs g h add found put m =
     let ks = s.known ++ bs in
@@ -170,7 +170,7 @@ pass_on n0 n1 n2 t known sizes b place s bs g h add found put m =
     }
 
 pub pass_known : (n0 n1 : List Node) (t : Setting) (known : ℕ) (b : Bound) (s : Scope) (bs : List Bound)
-    → ((ks : List Bound) → Sees n0 t.known ks → Sees n1 known (ks ++ b ∷ [])) → ((cs : List Bound) → Chain n1 known cs → IsKnown cs b.name → ⊥) → Passes n0 t (passed bs s) → ⊥
+    → ((ks : List Bound) → Sees n0 t.known ks → Sees n1 known (ks ++ b ∷ [])) → ((cs : List Bound) → TreeOf n1 known cs → IsKnown cs b.name → ⊥) → Passes n0 t (passed bs s) → ⊥
 pass_known n0 n1 t known b s bs add missing m =
     let ks = s.known ++ bs in
     let sees = add ks m.means.known in

@@ -25,7 +25,7 @@ use Rattle.module_check.specs.declared.trees.Node.{Node}
 use Rattle.module_check.specs.declared.places.Occurrence.{Occurrence}
 use Rattle.module_check.specs.declared.tasks.Task.{Task}
 use Rattle.module_check.specs.declared.tasks.Walk.{Walk}
-use Rattle.module_check.specs.Nodes.{Chain, Sees}
+use Rattle.module_check.specs.Nodes.{TreeOf, Sees}
 use Rattle.module_check.specs.Spots.{Spot, inside, clauses_in, Under, here, deeper, IsUnder}
 use Rattle.module_check.specs.Tasks.{Fits, AllFit, Adds}
 use Rattle.module_check.specs.Places.{seen, kept, Reads, Meets, ExprPlace, PatternPlace, ValuePlace, SegmentPlace, OwnPlace, InnerPlace, IsOnly, AreAll}
@@ -47,18 +47,18 @@ only_this Holds o a e h k = (subst Holds (sym e) h, λ b z. k b z ∙ sym e)
 
 -- what a look-up says of a variable
 module _ (nodes : List Node) (last : ℕ) (at : Span) (name : List ℕ) where
-  pub read_found : (bound_at : Span) (o : Occurrence) → seen o ≡ record { at = at; bound_at = bound_at } → ((bs : List Bound) → Chain nodes last bs → Found bs name bound_at) → (known : List Bound) → Sees nodes last known → IsOnly (Reads known at name) (Some o)
+  pub read_found : (bound_at : Span) (o : Occurrence) → seen o ≡ record { at = at; bound_at = bound_at } → ((bs : List Bound) → TreeOf nodes last bs → Found bs name bound_at) → (known : List Bound) → Sees nodes last known → IsOnly (Reads known at name) (Some o)
   read_found bound_at o e found known s =
       let here : Found known name bound_at = s.same.to name bound_at (found s.chain s.stands) in
       only_this (Reads known at name) o (record { at = at; bound_at = bound_at }) e (refl, here) (λ b z. same_place b at bound_at z.0 (one_place_of known name b.bound_at bound_at z.1 here))
 
-  unknown : ((bs : List Bound) → Chain nodes last bs → IsKnown bs name → ⊥) → (known : List Bound) → Sees nodes last known → IsKnown known name → ⊥
+  unknown : ((bs : List Bound) → TreeOf nodes last bs → IsKnown bs name → ⊥) → (known : List Bound) → Sees nodes last known → IsKnown known name → ⊥
   unknown h known s k = h s.chain s.stands (same_known known s.chain name (flip s.chain known s.same) k)
 
-  pub read_none : ((bs : List Bound) → Chain nodes last bs → IsKnown bs name → ⊥) → (known : List Bound) → Sees nodes last known → IsOnly (Reads known at name) None
+  pub read_none : ((bs : List Bound) → TreeOf nodes last bs → IsKnown bs name → ⊥) → (known : List Bound) → Sees nodes last known → IsOnly (Reads known at name) None
   read_none h known s = λ a z. unknown h known s (found_known known name a.bound_at z.1)
 
-  pub met_found : (bound_at : Span) (o : Occurrence) → seen o ≡ record { at = at; bound_at = bound_at } → ((bs : List Bound) → Chain nodes last bs → Found bs name bound_at) → (known : List Bound) → Sees nodes last known → IsOnly (Meets known at name) (Some o)
+  pub met_found : (bound_at : Span) (o : Occurrence) → seen o ≡ record { at = at; bound_at = bound_at } → ((bs : List Bound) → TreeOf nodes last bs → Found bs name bound_at) → (known : List Bound) → Sees nodes last known → IsOnly (Meets known at name) (Some o)
   met_found bound_at o e found known s =
       let here : Found known name bound_at = s.same.to name bound_at (found s.chain s.stands) in
       only_this (Meets known at name) o (record { at = at; bound_at = bound_at }) e (refl, inl here) (λ b z. same_place b at bound_at z.0 (elim z.1 [
@@ -66,7 +66,7 @@ module _ (nodes : List Node) (last : ℕ) (at : Span) (name : List ℕ) where
         | inr k ↦ absurd (k.0 (found_known known name bound_at here))
       ]))
 
-  pub met_new : (o : Occurrence) → seen o ≡ record { at = at; bound_at = at } → ((bs : List Bound) → Chain nodes last bs → IsKnown bs name → ⊥) → (known : List Bound) → Sees nodes last known → IsOnly (Meets known at name) (Some o)
+  pub met_new : (o : Occurrence) → seen o ≡ record { at = at; bound_at = at } → ((bs : List Bound) → TreeOf nodes last bs → IsKnown bs name → ⊥) → (known : List Bound) → Sees nodes last known → IsOnly (Meets known at name) (Some o)
   met_new o e h known s =
       let new = unknown h known s in
       only_this (Meets known at name) o (record { at = at; bound_at = at }) e (refl, inr (new, refl)) (λ b z. same_place b at at z.0 (elim z.1 [

@@ -11,7 +11,7 @@ use Rattle.erl_syntax.specs.Bindings.{Bound, names}
 use Rattle.erl_syntax.specs.Scopes.{Found, IsKnown}
 use Rattle.erl_syntax.specs.declared.span.Span.{Span}
 use Rattle.module_check.specs.declared.trees.Node.{Node}
-use Rattle.module_check.specs.Nodes.{Tree, none, Forks, IsLess, Rising, Agree, Chain, Grown, named}
+use Rattle.module_check.specs.Nodes.{Tree, none, Forks, IsLess, Rising, Agree, TreeOf, Grown, named}
 use Rattle.module_check.proofs.Forked.{tree_grown}
 use Rattle.module_check.proofs.Spots.{Contains-head, Contains-tail, none_in, only_one}
 use Rattle.module_check.proofs.Chained.{flip, itself, chained, found_left, found_right, same_known, agree_joined, agree_known, agree_unknown}
@@ -113,7 +113,7 @@ found_at ls x rs name p e = found_right ls (x ∷ rs) name x.at (λ k. not_same 
 
 -- what is found in a tree or further down
 pub record Leads (nodes : List Node) (last rest : ℕ) (name : List ℕ) : Type 0 where
-  pub leads : (bs : List Bound) → Chain nodes last bs → (ts : List Bound) × (Tree nodes rest ts × (Rising ts × (((at : Span) → Found ts name at → Found bs name at) × (IsKnown bs name → IsKnown ts name))))
+  pub leads : (bs : List Bound) → TreeOf nodes last bs → (ts : List Bound) × (Tree nodes rest ts × (Rising ts × (((at : Span) → Found ts name at → Found bs name at) × (IsKnown bs name → IsKnown ts name))))
 
 pub leads_start : (nodes : List Node) (last : ℕ) (name : List ℕ) → Leads nodes last last name
 leads_start nodes last name = record { leads = λ bs h. (h.sorted, (h.tree, (h.rising, ((λ at k. h.same.to name at k), (λ k. known_there bs h.sorted (flip h.sorted bs h.same) k))))) }
@@ -121,13 +121,13 @@ leads_start nodes last name = record { leads = λ bs h. (h.sorted, (h.tree, (h.r
     known_there : (bs ts : List Bound) → Agree bs ts → IsKnown bs name → IsKnown ts name
     known_there bs ts a k = same_known bs ts name a k
 
-pub find_none : (nodes : List Node) (last rest : ℕ) (name : List ℕ) → ((ts : List Bound) → Tree nodes rest ts → ts ≡ []) → Leads nodes last rest name → (bs : List Bound) → Chain nodes last bs → IsKnown bs name → ⊥
+pub find_none : (nodes : List Node) (last rest : ℕ) (name : List ℕ) → ((ts : List Bound) → Tree nodes rest ts → ts ≡ []) → Leads nodes last rest name → (bs : List Bound) → TreeOf nodes last bs → IsKnown bs name → ⊥
 find_none nodes last rest name e h bs ch k =
     let t = h.leads bs ch in
     let P : List Bound → Type 0 = λ v. IsKnown v name in
     none_in name (subst P (e t.0 t.1.0) (t.1.1.1.1 k))
 
-pub find_here : (nodes : List Node) (last rest : ℕ) (name : List ℕ) (n : Node) → ((ts : List Bound) → Tree nodes rest ts → Forks nodes n ts) → slice_cmp nat_cmp name n.name.now ≡ Equal → Leads nodes last rest name → (bs : List Bound) → Chain nodes last bs → Found bs name n.at
+pub find_here : (nodes : List Node) (last rest : ℕ) (name : List ℕ) (n : Node) → ((ts : List Bound) → Tree nodes rest ts → Forks nodes n ts) → slice_cmp nat_cmp name n.name.now ≡ Equal → Leads nodes last rest name → (bs : List Bound) → TreeOf nodes last bs → Found bs name n.at
 find_here nodes last rest name n o e h bs ch =
     let t = h.leads bs ch in
     let f = o t.0 t.1.0 in
@@ -162,7 +162,7 @@ leads_right nodes last rest name n o e h = record {
 }
 
 -- a name is put in front of those of a tree
-chain_put : (old new : List Node) (before top : ℕ) (b : Bound) (bs us : List Bound) (ch : Chain old before bs) → Tree new top us → Rising us → Agree (b ∷ ch.sorted) us → Chain new top (b ∷ bs)
+chain_put : (old new : List Node) (before top : ℕ) (b : Bound) (bs us : List Bound) (ch : TreeOf old before bs) → Tree new top us → Rising us → Agree (b ∷ ch.sorted) us → TreeOf new top (b ∷ bs)
 chain_put old new before top b bs us ch t r a = record {
   sorted = us;
   tree = t;
@@ -177,19 +177,19 @@ agree_past fs rs us b k a =
     chained (b ∷ (fs ++ rs)) (fs ++ (b ∷ rs)) (fs ++ us) first (agree_joined fs fs (b ∷ rs) us (itself fs) (flip us (b ∷ rs) a))
 
 pub put_leaf : (old new : List Node) (before top : ℕ) (n : Node) → n.left ≡ 0 → n.right ≡ 0 → ((ts : List Bound) → Tree old before ts → ts ≡ []) → ((ts : List Bound) → Forks old n ts → Tree new top ts)
-    → (bs : List Bound) → Chain old before bs → Chain new top (named n ∷ bs)
+    → (bs : List Bound) → TreeOf old before bs → TreeOf new top (named n ∷ bs)
 put_leaf old new before top n p q e add bs ch =
     let P : ℕ → Type 0 = λ k. Tree old k [] in
     let Q : List Bound → Type 0 = λ ts. Agree (named n ∷ ts) (named n ∷ []) in
     let t = add (named n ∷ []) (record { lefts = []; rights = []; left = subst P (sym p) none; right = subst P (sym q) none; is = refl }) in
     chain_put old new before top (named n) bs (named n ∷ []) ch t ((λ m k. absurd (none_in m k)), tt) (subst Q (sym (e ch.sorted ch.tree)) (itself (named n ∷ [])))
 
-same_tree : (nodes : List Node) (k : ℕ) (ts : List Bound) → Tree nodes k ts → Rising ts → Chain nodes k ts
+same_tree : (nodes : List Node) (k : ℕ) (ts : List Bound) → Tree nodes k ts → Rising ts → TreeOf nodes k ts
 same_tree nodes k ts t r = record { sorted = ts; tree = t; rising = r; same = itself ts }
 
 pub put_left : (old mid new : List Node) (before k top : ℕ) (n : Node) (name : List ℕ) (at : Span) → Grown old mid → ((ts : List Bound) → Tree old before ts → Forks old n ts) → slice_cmp nat_cmp name n.name.now ≡ Less
-    → ((cs : List Bound) → Chain old n.left cs → Chain mid k (record { name = name; at = at } ∷ cs)) → ((ts : List Bound) → Forks mid (record n { left = k }) ts → Tree new top ts)
-    → (bs : List Bound) → Chain old before bs → Chain new top (record { name = name; at = at } ∷ bs)
+    → ((cs : List Bound) → TreeOf old n.left cs → TreeOf mid k (record { name = name; at = at } ∷ cs)) → ((ts : List Bound) → Forks mid (record n { left = k }) ts → Tree new top ts)
+    → (bs : List Bound) → TreeOf old before bs → TreeOf new top (record { name = name; at = at } ∷ bs)
 put_left old mid new before k top n name at g o e put add bs ch =
     let b : Bound = record { name = name; at = at } in
     let f = o ch.sorted ch.tree in
@@ -212,8 +212,8 @@ put_left old mid new before k top n name at g o e put add bs ch =
     chain_put old new before top b bs us ch t in_order (subst Q (sym f.is) (flip us (b ∷ (f.lefts ++ named n ∷ f.rights)) same))
 
 pub put_right : (old mid new : List Node) (before k top : ℕ) (n : Node) (name : List ℕ) (at : Span) → Grown old mid → ((ts : List Bound) → Tree old before ts → Forks old n ts) → slice_cmp nat_cmp name n.name.now ≡ Greater
-    → ((cs : List Bound) → Chain old n.right cs → Chain mid k (record { name = name; at = at } ∷ cs)) → ((ts : List Bound) → Forks mid (record n { right = k }) ts → Tree new top ts)
-    → (bs : List Bound) → Chain old before bs → Chain new top (record { name = name; at = at } ∷ bs)
+    → ((cs : List Bound) → TreeOf old n.right cs → TreeOf mid k (record { name = name; at = at } ∷ cs)) → ((ts : List Bound) → Forks mid (record n { right = k }) ts → Tree new top ts)
+    → (bs : List Bound) → TreeOf old before bs → TreeOf new top (record { name = name; at = at } ∷ bs)
 put_right old mid new before k top n name at g o e put add bs ch =
     let b : Bound = record { name = name; at = at } in
     let f = o ch.sorted ch.tree in
@@ -244,7 +244,7 @@ put_right old mid new before k top n name at g o e put add bs ch =
 
 pub put_here : (old new : List Node) (before top : ℕ) (n m : Node) → m.left ≡ n.left → m.right ≡ n.right → ((ts : List Bound) → Tree old before ts → Forks old n ts) → slice_cmp nat_cmp m.name.now n.name.now ≡ Equal
     → ((ts : List Bound) → Forks old m ts → Tree new top ts)
-    → (bs : List Bound) → Chain old before bs → Chain new top (named m ∷ bs)
+    → (bs : List Bound) → TreeOf old before bs → TreeOf new top (named m ∷ bs)
 put_here old new before top n m q w o e add bs ch =
     let b : Bound = named m in
     let f = o ch.sorted ch.tree in

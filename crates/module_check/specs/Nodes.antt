@@ -40,7 +40,7 @@ pub record Agree (bs cs : List Bound) : Type 0 where
   pub from : (name : List ℕ) (at : Span) → Found cs name at → Found bs name at
 
 -- a tree of names in their order, which are those that stand here, each with the first of its places
-pub record Chain (nodes : List Node) (root : ℕ) (bs : List Bound) : Type 0 where
+pub record TreeOf (nodes : List Node) (root : ℕ) (bs : List Bound) : Type 0 where
   pub sorted : List Bound
   pub tree : Tree nodes root sorted
   pub rising : Rising sorted
@@ -49,12 +49,12 @@ pub record Chain (nodes : List Node) (root : ℕ) (bs : List Bound) : Type 0 whe
 -- what is known at the node is what is known here
 pub record Sees (nodes : List Node) (last : ℕ) (known : List Bound) : Type 0 where
   pub chain : List Bound
-  pub stands : Chain nodes last chain
+  pub stands : TreeOf nodes last chain
   pub same : Agree chain known
 
 pub record SeesUnsafe (nodes : List Node) (last : ℕ) (dangers : List Danger) : Type 0 where
   pub chain : List Bound
-  pub stands : Chain nodes last chain
+  pub stands : TreeOf nodes last chain
   pub to : (name : List ℕ) → IsKnown chain name → IsUnsafe dangers name
   pub from : (name : List ℕ) → IsUnsafe dangers name → IsKnown chain name
 

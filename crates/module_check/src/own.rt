@@ -6,7 +6,7 @@ ghost use Rattle.erl_syntax.specs.Scopes.{Scope, IsKnown};
 ghost use Rattle.erl_syntax.specs.declared.expr.Expr.{out-Expr};
 ghost use Rattle.erl_syntax.specs.declared.pattern.Pattern.{out-Pattern};
 ghost use Rattle.module_check.specs.Order.{IsLeast};
-ghost use Rattle.module_check.specs.Nodes.{Chain, SeesUnsafe};
+ghost use Rattle.module_check.specs.Nodes.{TreeOf, SeesUnsafe};
 ghost use Rattle.module_check.specs.Spots.{Spot};
 ghost use Rattle.module_check.specs.Tasks.{Means, Fits};
 ghost use Rattle.module_check.specs.Faults.{UnsafeFault, ReadFault, ExprFault, PatternFault, TargetFault, TypeFault, SegmentFault, Own};
@@ -21,7 +21,7 @@ use segment_type::type_segment;
 
 /// Whether the name stands at the node or behind it.
 fn is_put(nodes: &[Node], last: usize, name: &[u8]) -> bool
-    ensures { (bs : List Bound) → Chain nodes.now last bs → MatchBool result (IsKnown bs name.now) (IsKnown bs name.now → ⊥) }
+    ensures { (bs : List Bound) → TreeOf nodes.now last bs → MatchBool result (IsKnown bs name.now) (IsKnown bs name.now → ⊥) }
 {
     find(nodes, last, name).is_some()
 }

@@ -3,7 +3,7 @@
 ghost use Rattle.std.specs.Prelude.{◌≡◌, ◌≤◌, ◌+◌, ◌++◌, ◌∷◌, [], ℕ, List, length, IfOk, MatchBool, MatchOption};
 ghost use Rattle.erl_syntax.specs.Bindings.{Bound, names};
 ghost use Rattle.erl_syntax.specs.Scopes.{Scope, Danger, Found, IsKnown};
-ghost use Rattle.module_check.specs.Nodes.{Chain, Sees, Grown, bounds_of, bound_of, SeesUnsafe};
+ghost use Rattle.module_check.specs.Nodes.{TreeOf, Sees, Grown, bounds_of, bound_of, SeesUnsafe};
 
 use crate::trees::{Node, find, put};
 use erl_syntax::Span;

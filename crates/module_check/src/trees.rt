@@ -7,7 +7,7 @@
 ghost use Rattle.std.specs.Prelude.{◌≡◌, ◌<◌, ◌∷◌, [], List, IfOk, MatchOption};
 ghost use Rattle.erl_syntax.specs.Bindings.{Bound};
 ghost use Rattle.erl_syntax.specs.Scopes.{Found, IsKnown};
-ghost use Rattle.module_check.specs.Nodes.{Tree, Forks, Chain, Grown};
+ghost use Rattle.module_check.specs.Nodes.{Tree, Forks, TreeOf, Grown};
 
 use erl_syntax::Span;
 use std::alloc::AllocError;
@@ -48,7 +48,7 @@ fn level_of(nodes: &[Node], root: usize) -> u32 {
 
 /// The place of the name among those known at the root.
 pub(crate) fn find(nodes: &[Node], last: usize, name: &[u8]) -> Option<Span>
-    ensures { (bs : List Bound) → Chain nodes.now last bs → MatchOption result (IsKnown bs name.now → ⊥) (λ at. Found bs name.now at) }
+    ensures { (bs : List Bound) → TreeOf nodes.now last bs → MatchOption result (IsKnown bs name.now → ⊥) (λ at. Found bs name.now at) }
 {
     let mut rest = last;
     while let Some(node) = node_at(nodes, rest) {
@@ -130,7 +130,7 @@ pub(crate) fn put<'a>(
     at: Span,
 ) -> Result<usize, AllocError>
     ensures grown { IfOk result (λ last. Grown nodes.old.items nodes.new.items) }
-    ensures put { IfOk result (λ last. (bs : List Bound) → Chain nodes.old.items before bs → Chain nodes.new.items last (record { name = name.entry.now; at = at } ∷ bs)) }
+    ensures put { IfOk result (λ last. (bs : List Bound) → TreeOf nodes.old.items before bs → TreeOf nodes.new.items last (record { name = name.entry.now; at = at } ∷ bs)) }
 {
     let Some(node) = node_at(nodes, before) else {
         let leaf = Node {
