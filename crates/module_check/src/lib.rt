@@ -26,4 +26,6 @@ pub use order::first_of;
 #[cfg(test)]
 mod tests;
 #[cfg(test)]
+mod trees_tests;
+#[cfg(test)]
 mod vars_tests;
