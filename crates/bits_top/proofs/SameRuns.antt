@@ -101,7 +101,7 @@ leads number code r (Display x ∷ items) bs (suc left) k before fits short apar
 abbrev pub SpellsReductions : List (List ℕ) → Type 0
 SpellsReductions atoms = atom_text (slice_index_or atoms a_reductions []) ≡ codes "reductions"
 
-end_text : (code : Module) (how : Ending) → SpellsReductions code.atoms → ending_text how ≡ reports.processes_text (name_in code) 1 (Left (whole_end how) ∷ [])
+end_text : (code : Module) (how : Ending) → SpellsReductions code.atoms → ending_text how ≡ flat_map reports.end_line (reports.ends_from (name_in code) 1 (Left (whole_end how) ∷ []))
 end_text code Normal spelled = refl
 end_text code Exhausted spelled = let d : decimal 1 ≡ 49 ∷ [] = decimal_digit 1 (omega arith) in rw (spelled, d) refl
 
