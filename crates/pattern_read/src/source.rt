@@ -259,7 +259,7 @@ impl Source {
         }
     }
 
-    /// The bytes of the token that stands there, which is not a string's.
+    /// The bytes of the token that stands there. Those of a string are the first one's alone.
     fn bytes(&self, at: usize) -> &[u8]
         requires { at < length self.now.words }
         ensures { (w : Word) (rest : List Word) → drop at self.now.words ≡ w ∷ rest → w.kind ≢ k.Str → w.chars ≡ characters_of w.kind result.now }
