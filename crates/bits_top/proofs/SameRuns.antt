@@ -1,6 +1,6 @@
 -- A run of a module of today's form is a run of the same module in the copying machine of the whole language, with the same texts.
 use Rattle.std.proofs.Common.{◌≡◌, ℕ, ℤ, suc, zero, ◌-◌, ◌≤◌, List, [], ◌∷◌, ◌++◌, map, true, All, refl, sym, ap, subst, ◌∙◌, arith, append_assoc, append-nil, codes, decimal, slice_index_or}
-use Rattle.std.specs.List.{flat_map}
+use Rattle.std.specs.List.{flat_map, AllByRecursion}
 use Rattle.std.specs.Fmt.{signed_decimal}
 use Rattle.std.proofs.lemmas.Fmt.{decimal_digit}
 use Rattle.std.proofs.lemmas.Grind.{common_steps}
@@ -14,7 +14,7 @@ use Rattle.term_value.specs.Texts.{text, atom_text}
 use Rattle.term_value.specs.Step.{Show, name_in}
 use Rattle.term_value.specs.Local.{Local, Outcome, Wants, EndsDone, EndsRaised, ask_of}
 use Rattle.erl_syntax.specs.Reading.{number_in}
-use Rattle.term_value.specs.Machine.{End, Exit, Process, Running, Over, Left, Machine, first_of, start_of, apply, after, Legal, IsLegal, AllGone}
+use Rattle.term_value.specs.Machine.{End, Exit, Process, Running, Over, Left, Machine, first_of, start_of, apply, after, Legal, IsLegal, IsGone}
 use Rattle.term_value.specs.Machine as machine
 use Rattle.term_value.specs.Orders.{order_text}
 use Rattle.term_value.specs.Reports as reports
@@ -140,7 +140,7 @@ same_run number atoms others name main s (suc left) outcome order report apart t
     record {
       entries = entries;
       legal = subst (λ m. IsLegal m entries) (sym at) f.legal;
-      complete = subst (λ m. AllGone m.processes) (sym there) (tt, tt);
+      complete = subst (λ m. AllByRecursion IsGone m.processes) (sym there) (tt, tt);
       ordered = ordered ∙ ap order_text (run.entries ∙ ap (λ l. shown_entries l ++ end_entries) same_shown);
       reported = reported ∙ ap (λ l. report_of l outcome.ending) same_shown ∙ ap (λ e. report_of shown e) same_ending ∙ lines code (suc left) shown how spelled ∙ sym (ap reports.machine_text there);
     }

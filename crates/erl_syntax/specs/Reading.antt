@@ -24,9 +24,13 @@ abbrev pub number_in : List (List ℕ) → List ℕ → ℕ
 number_in [] chars = 0
 number_in (atom ∷ atoms) chars = if bytes_eq atom chars then 0 else 1 + number_in atoms chars
 
+-- the characters of the atom with this number
+abbrev pub characters_in : List (List ℕ) → ℕ → List ℕ
+characters_in atoms number = slice_index_or atoms number []
+
 -- each atom's number is its only place in the table
 abbrev pub StandOnce : List (List ℕ) → Type 0
-StandOnce atoms = (i : ℕ) → i < length atoms → number_in atoms (slice_index_or atoms i []) ≡ i
+StandOnce atoms = (i : ℕ) → i < length atoms → number_in atoms (characters_in atoms i) ≡ i
 
 -- the table with that atom, which stands there once
 abbrev pub with_atom : List (List ℕ) → List ℕ → List (List ℕ)

@@ -1,6 +1,7 @@
 -- A module of today's form is read by the whole language as that module.
 use Rattle.std.proofs.Common.{◌≡◌, ℕ, pos, Bool, true, false, ◌&&◌, ◌||◌, nat_eq, List, [], ◌∷◌, ◌++◌, map, reverse, codes, All, refl, sym, ap, subst, ◌∙◌, arith, append_assoc, append-nil}
 use Rattle.std.specs.List.{Contains, AllByRecursion, flat_map}
+use Rattle.std.specs.Ordering.{int_eq}
 use Rattle.std.proofs.lemmas.Bool.Decides.{nat_tests}
 use Rattle.std.proofs.lemmas.List.{map-append}
 use Rattle.std.proofs.lemmas.List.Concat.{flat_map-cons}
@@ -21,7 +22,8 @@ use Rattle.erl_syntax.specs.declared.module.Clause as syntax_clause
 use Rattle.term_value.specs.Tree.{Tree, Clauses, clause, no_clause, no_pattern, never, or, end, Patterns, Guard, Function}
 use Rattle.term_value.specs.Tree as tree
 use Rattle.term_value.specs.Read.{Reading, body, patterns}
-use Rattle.term_value.specs.ReadTrees.{line_of, pattern_of, guard_tree, function_clauses, function_of, is_exported, int_eq, name_of, reading, module_of}
+use Rattle.term_value.specs.ReadTrees.{line_of, pattern_of, guard_tree, function_clauses, function_of, is_exported, name_of, reading, module_of}
+use Rattle.term_value.proofs.CallLaws.{name_at}
 use Rattle.first_form.specs.Form.{IsItem, AreItems, IsStraight, bound_by}
 use Rattle.first_form.specs.Numbers.{IsReadAs}
 use Rattle.first_form.specs.TreeOf.{IsItemOf, AreItemsOf, no_item, and_item, IsTreeOf}
@@ -30,7 +32,7 @@ use Rattle.first_form.specs.declared.form.Field.{Field}
 use Rattle.first_form.specs.declared.form.Item.{Item}
 use Rattle.first_form.specs.declared.form.Straight.{Straight}
 use Rattle.first_form.proofs.Places.{among_head, place_in, found_in, place_before, Standing, standing, same_front, same_middle, rising_bound, same_name}
-use Rattle.first_form.proofs.NamesRead.{spelled_name, spelled_number, spelled_once}
+use Rattle.first_form.proofs.NamesRead.{spelled_number, spelled_once}
 use Rattle.first_form.proofs.TreesRead.{AreNamed, match_read, display_read, no_guard_read}
 use Rattle.first_form.proofs.Walked.{sole, in_sole, AreFound, fields_found, IsBinder, fields_bind, match_targets, no_targets, known_past, item_names, items_names, items_places}
 
@@ -138,7 +140,7 @@ module _ (m : Module) (f : syntax_function.Function) (c : syntax_clause.Clause) 
         let place : IsPlace f (record { at = az; bound_at = place_in (flat_map item_targets c.body) (sole letter) }) =
         subst (λ z. IsPlace f (record { at = az; bound_at = z })) (sym same) (displays front i back cut letters known letter at az home argument name ve ae.is fits) in
         let has : IsKnown (flat_map item_targets c.body) (sole letter) = subst (λ bs. IsKnown bs (sole letter)) (sym (all_around front i back cut letters known)) (known_more bounds behind_them (sole letter) has_name) in
-        display_read (reading number_at m) number letter i at az he.at home argument he.number name pe ve he.is (spelled_name m he.number (codes "erlang") he.spelled) (spelled_name m name (codes "display") ne) ae.is
+        display_read (reading number_at m) number letter i at az he.at home argument he.number name pe ve he.is (name_at m he.number (codes "erlang") he.spelled) (name_at m name (codes "display") ne) ae.is
         (letter_number letter az has place)
 
     pub items_lines : (front is : List syntax_item.Item) (letters : List ℕ) (items : List Item) (places : List Span) → c.body ≡ front ++ is → AreItemsOf m items places is → AreItems letters items →

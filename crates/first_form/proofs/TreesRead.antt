@@ -18,14 +18,12 @@ use Rattle.term_value.specs.Value.{VInt, VAtom}
 use Rattle.term_value.specs.Tree.{Display, Tree, Var, All, end, and, never, or, Guard, Pattern, PBits}
 use Rattle.term_value.specs.Read.{Reading, Read, literal, expression, Piece, piece, pieces, built_from, segments, Line, call, guard_of, Branch, Qualifier}
 use Rattle.term_value.specs.ReadTrees.{variable, expr_layer, pattern_layer, qual_layer, alt_layer, branch_layer, guard_layer, item_layer, segment_layer, tree_of, pattern_of, guard_tree, line_of}
+use Rattle.term_value.proofs.CallLaws.{expr_read, atom_read, call_read}
 use Rattle.first_form.specs.TreeOf.{IsSizeOf, not_given, given, IsFieldOf, AreFieldsOf, no_field, and_field, IsPartOf, ArePartsOf, no_part, and_part}
 use Rattle.first_form.specs.Whole.{field_pieces, size_read, part_piece, line}
 use Rattle.first_form.specs.declared.form.Field.{Field}
 use Rattle.first_form.specs.declared.form.Part.{Part}
 use Rattle.first_form.specs.declared.form.Item.TheVariants as item
-
-abbrev pub expr_read : Reading → Expr → Read
-expr_read r e = fold-Expr Read Pattern Qualifier Branch Branch Guard Line (List Piece) (expr_layer r) (pattern_layer r) qual_layer alt_layer branch_layer guard_layer item_layer segment_layer e
 
 abbrev pub segment_read : Reading → Segment → List Piece
 segment_read r s = fold-Segment Read Pattern Qualifier Branch Branch Guard Line (List Piece) (expr_layer r) (pattern_layer r) qual_layer alt_layer branch_layer guard_layer item_layer segment_layer s
@@ -45,14 +43,8 @@ module _ (r : Reading) where
   pub variable_read : (e : Expr) (at : Span) (name : List ℕ) → e ≡ x.Var at name → expr_read r e ≡ variable (r.number_at at)
   variable_read e at name h = ap (expr_read r) (h ∙ sym (x.rolls-Var at name)) ∙ fold-roll-Expr Read Pattern Qualifier Branch Branch Guard Line (List Piece) (expr_layer r) (pattern_layer r) qual_layer alt_layer branch_layer guard_layer item_layer segment_layer (O.Expr::Var at name)
 
-  pub atom_read : (e : Expr) (at : Span) (a : ℕ) → e ≡ x.Atom at a → expr_read r e ≡ literal (VAtom a)
-  atom_read e at a h = ap (expr_read r) (h ∙ sym (x.rolls-Atom at a)) ∙ fold-roll-Expr Read Pattern Qualifier Branch Branch Guard Line (List Piece) (expr_layer r) (pattern_layer r) qual_layer alt_layer branch_layer guard_layer item_layer segment_layer (O.Expr::Atom at a)
-
   pub bits_read : (e : Expr) (at : Span) (sgs : List Segment) → e ≡ x.Bits at sgs → expr_read r e ≡ expression (built_from (flat_map (λ q. q) (map (segment_read r) sgs)))
   bits_read e at sgs h = ap (expr_read r) (h ∙ sym (x.rolls-Bits at sgs)) ∙ fold-roll-Expr Read Pattern Qualifier Branch Branch Guard Line (List Piece) (expr_layer r) (pattern_layer r) qual_layer alt_layer branch_layer guard_layer item_layer segment_layer (O.Expr::Bits at sgs)
-
-  pub call_read : (e : Expr) (at : Span) (home : List Expr) (name : ℕ) (args : List Expr) → e ≡ x.Call at home name args → expr_read r e ≡ expression (call r (map (expr_read r) home) name (map (expr_read r) args))
-  call_read e at home name args h = ap (expr_read r) (h ∙ sym (x.rolls-Call at home name args)) ∙ fold-roll-Expr Read Pattern Qualifier Branch Branch Guard Line (List Piece) (expr_layer r) (pattern_layer r) qual_layer alt_layer branch_layer guard_layer item_layer segment_layer (O.Call at home name args)
 
   pub bits_pattern_read : (pt : syntax_pattern.Pattern) (at : Span) (sgs : List Segment) → pt ≡ p.Bits at sgs → pattern_of r pt ≡ PBits (segments (flat_map (λ q. q) (map (segment_read r) sgs)))
   bits_pattern_read pt at sgs h = ap (pattern_of r) (h ∙ sym (p.rolls-Bits at sgs)) ∙ fold-roll-Pattern Read Pattern Qualifier Branch Branch Guard Line (List Piece) (expr_layer r) (pattern_layer r) qual_layer alt_layer branch_layer guard_layer item_layer segment_layer (O.Pattern::Bits at sgs)

@@ -1,11 +1,10 @@
 -- A call is read as a call of what it is checked as a call of.
 use Rattle.std.proofs.Common.{◌≡◌, ℕ, suc, zero, ◌+◌, ◌<◌, Bool, true, false, ◌&&◌, cond, List, [], ◌∷◌, ◌++◌, map, length, slice_index_or, Option, Some, None, refl, sym, ap, ◌∙◌, arith}
-use Rattle.std.specs.Prelude.{nat_eq, All}
-use Rattle.std.specs.List.{find}
+use Rattle.std.specs.Prelude.{nat_eq, bytes_eq, not, All}
+use Rattle.std.specs.List.{find, position_or_len}
 use Rattle.std.proofs.Math.Seq.{get_or-append_seam}
 use Rattle.std.proofs.lemmas.Bool.{eqb-true, eq-eqb}
 use Rattle.std.proofs.lemmas.List.Elements.{All-nil, All-cons}
-use Rattle.std.proofs.lemmas.Map.Text.{is_eq-slice_cmp}
 use Rattle.std.proofs.lemmas.Slice.Eq.{bytes_eq-Decides}
 use Rattle.erl_syntax.specs.BuiltIns.{name_of, arity_of, is_bare, home_of}
 use Rattle.erl_syntax.specs.Checking.{Spelled, HasFunction, IsBuiltIn, IsOwn, named, macro, CallsBuiltIn, bare, at_home, CallsOwn, exported}
@@ -19,11 +18,11 @@ use Rattle.erl_syntax.specs.declared.module.Module.{Module}
 use Rattle.erl_syntax.specs.declared.built_in.BuiltIn.{BuiltIn}
 use Rattle.erl_syntax.specs.declared.built_in.BuiltIn.TheVariants as b
 use Rattle.erl_syntax.specs.declared.built_in.TheConstants.{BUILT_INS}
-use Rattle.term_value.specs.Calls.{same_text, is_named, form_of, form_or_call, called}
+use Rattle.term_value.specs.Calls.{is_named, form_of, form_or_call, called}
 use Rattle.term_value.specs.Value.{VAtom}
 use Rattle.term_value.specs.Tree.{Form, and, All as Evaluated, Call, Pattern, Guard, Val}
 use Rattle.term_value.specs.Read.{Reading, Read, Line, Branch, Qualifier, Piece, literal, expression, trees, call, module_of}
-use Rattle.term_value.specs.ReadTrees.{reading, tree_of, place_from, expr_layer, pattern_layer, qual_layer, alt_layer, branch_layer, guard_layer, item_layer, segment_layer}
+use Rattle.term_value.specs.ReadTrees.{reading, tree_of, place_of, expr_layer, pattern_layer, qual_layer, alt_layer, branch_layer, guard_layer, item_layer, segment_layer}
 use Rattle.term_value.specs.CallLaws.{trees_of, IsFirstAt, CallsAreRead}
 
 -- ---- Tests
@@ -32,8 +31,8 @@ both : (a c : Bool) → (a && c) ≡ true → (a ≡ true) × (c ≡ true)
 both true c h = (refl, h)
 both false c h = cc h
 
-texts_same : (cs ds : List ℕ) → same_text cs ds ≡ true → cs ≡ ds
-texts_same cs ds h = (bytes_eq-Decides cs ds).0 (sym (is_eq-slice_cmp cs ds) ∙ h)
+texts_same : (cs ds : List ℕ) → bytes_eq cs ds ≡ true → cs ≡ ds
+texts_same cs ds h = (bytes_eq-Decides cs ds).0 h
 
 is_test : {X : Type 0} (test : X → Bool) (xs : List X) (y : X) → find test xs ≡ Some y → test y ≡ true
 is_test test [] y h = cc h
@@ -45,7 +44,7 @@ is_test test (z ∷ xs) y h = by (test z) refl h (is_test test xs y)
 
 -- ---- Atoms of a table
 
-name_at : (m : Module) (atom : ℕ) (chars : List ℕ) → Spelled m atom chars → slice_index_or m.atoms atom [] ≡ chars
+pub name_at : (m : Module) (atom : ℕ) (chars : List ℕ) → Spelled m atom chars → slice_index_or m.atoms atom [] ≡ chars
 name_at m atom chars s =
     ap (λ atoms. slice_index_or atoms atom []) s.stands
     ∙ ap (λ n. slice_index_or (s.front ++ chars ∷ s.back) n []) (sym s.number)
@@ -123,17 +122,6 @@ found_none (Some f) place none = absurd (none f refl)
 
 -- ---- Functions of the module
 
--- the first function of this name and number of arguments, where the first of all stands at `start`
-record IsFirstFrom (fs : List Function) (name arity start place : ℕ) : Type 0 where
-  front : List Function
-  function : Function
-  back : List Function
-  stands : fs ≡ front ++ function ∷ back
-  count : place ≡ start + length front
-  named : function.name ≡ name
-  takes : function.arity ≡ arity
-  first : All (λ f. f.name ≡ name → f.arity ≡ arity → ⊥) front
-
 abbrev fits : ℕ → ℕ → Function → Bool
 fits name arity f = nat_eq f.name name && nat_eq f.arity arity
 
@@ -144,66 +132,73 @@ not_fitting : (name arity : ℕ) (f : Function) → fits name arity f ≡ false 
 not_fitting name arity f h n a = let e : true ≡ false = sym (fitting name arity f n a) ∙ h in cc e
 
 module _ (name arity : ℕ) where
-  at_once : (g : Function) (fs : List Function) (start : ℕ) → fits name arity g ≡ true → IsFirstFrom (g ∷ fs) name arity start (place_from start (g ∷ fs) name arity)
-  at_once g fs start h =
+  -- the first of these functions stands at this place
+  record IsFirst (fs : List Function) (place : ℕ) : Type 0 where
+    front : List Function
+    function : Function
+    back : List Function
+    stands : fs ≡ front ++ function ∷ back
+    count : place ≡ length front
+    named : function.name ≡ name
+    takes : function.arity ≡ arity
+    first : All (λ f. f.name ≡ name → f.arity ≡ arity → ⊥) front
+
+  at_once : (g : Function) (fs : List Function) → fits name arity g ≡ true → IsFirst (g ∷ fs) (place_of (g ∷ fs) name arity)
+  at_once g fs h =
       let both_fit = both (nat_eq g.name name) (nat_eq g.arity arity) h in
-      let place : place_from start (g ∷ fs) name arity ≡ start = ap (λ t. cond t start (place_from (start + 1) fs name arity)) h in
       record {
         front = [];
         function = g;
         back = fs;
         stands = refl;
-        count = place ∙ omega arith;
+        count = ap (λ t. cond (not t) (1 + place_of fs name arity) 0) h;
         named = eqb-true g.name name both_fit.0;
         takes = eqb-true g.arity arity both_fit.1;
         first = All-nil (λ (f : Function). f.name ≡ name → f.arity ≡ arity → ⊥);
       }
 
-  later : (g : Function) (fs : List Function) (start : ℕ) → fits name arity g ≡ false → IsFirstFrom fs name arity (start + 1) (place_from (start + 1) fs name arity) →
-      IsFirstFrom (g ∷ fs) name arity start (place_from start (g ∷ fs) name arity)
-  later g fs start h rest =
-      let place : place_from start (g ∷ fs) name arity ≡ place_from (start + 1) fs name arity = ap (λ t. cond t start (place_from (start + 1) fs name arity)) h in
-      let count : place_from (start + 1) fs name arity ≡ (start + 1) + length rest.front = rest.count in
-      let more : (start + 1) + length rest.front ≡ start + suc (length rest.front) = omega arith in
+  later : (g : Function) (fs : List Function) → fits name arity g ≡ false → IsFirst fs (place_of fs name arity) → IsFirst (g ∷ fs) (place_of (g ∷ fs) name arity)
+  later g fs h rest =
+      let count : place_of fs name arity ≡ length rest.front = rest.count in
+      let one_more : 1 + place_of fs name arity ≡ suc (length rest.front) = omega arith in
       record {
         front = g ∷ rest.front;
         function = rest.function;
         back = rest.back;
         stands = ap (λ l. g ∷ l) rest.stands;
-        count = place ∙ count ∙ more;
+        count = ap (λ t. cond (not t) (1 + place_of fs name arity) 0) h ∙ one_more;
         named = rest.named;
         takes = rest.takes;
         first = All-cons (λ (f : Function). f.name ≡ name → f.arity ≡ arity → ⊥) g rest.front (not_fitting name arity g h) rest.first;
       }
 
-  first_from : (fs : List Function) (start : ℕ) (f : Function) (k : ℕ) → k < length fs → slice_index_or fs k f ≡ f → f.name ≡ name → f.arity ≡ arity →
-      IsFirstFrom fs name arity start (place_from start fs name arity)
-  first_from [] start f k l e n a = absurd (omega arith)
-  first_from (g ∷ fs) start f zero l e n a = at_once g fs start (ap (fits name arity) e ∙ fitting name arity f n a)
-  first_from (g ∷ fs) start f (suc k) l e n a = by (fits name arity g) refl (first_from fs (start + 1) f k (omega arith) e n a)
+  first_in : (fs : List Function) (f : Function) (k : ℕ) → k < length fs → slice_index_or fs k f ≡ f → f.name ≡ name → f.arity ≡ arity → IsFirst fs (place_of fs name arity)
+  first_in [] f k l e n a = absurd (omega arith)
+  first_in (g ∷ fs) f zero l e n a = at_once g fs (ap (fits name arity) e ∙ fitting name arity f n a)
+  first_in (g ∷ fs) f (suc k) l e n a = by (fits name arity g) refl (first_in fs f k (omega arith) e n a)
     where
-      by : (t : Bool) → fits name arity g ≡ t → IsFirstFrom fs name arity (start + 1) (place_from (start + 1) fs name arity) → IsFirstFrom (g ∷ fs) name arity start (place_from start (g ∷ fs) name arity)
-      by true h rest = at_once g fs start h
-      by false h rest = later g fs start h rest
+      by : (t : Bool) → fits name arity g ≡ t → IsFirst fs (place_of fs name arity) → IsFirst (g ∷ fs) (place_of (g ∷ fs) name arity)
+      by true h rest = at_once g fs h
+      by false h rest = later g fs h rest
 
-  first_of : (m : Module) → HasFunction m name arity → IsFirstAt m name arity (place_from 0 m.functions name arity)
+  first_of : (m : Module) → HasFunction m name arity → IsFirstAt m name arity (place_of m.functions name arity)
   first_of m h =
-      let f = first_from m.functions 0 h.function h.among.0 h.among.1 h.among.2 h.named h.takes in
-      record { front = f.front; function = f.function; back = f.back; stands = f.stands; count = f.count ∙ omega arith; named = f.named; takes = f.takes; first = f.first }
+      let f = first_in m.functions h.function h.among.0 h.among.1 h.among.2 h.named h.takes in
+      record { front = f.front; function = f.function; back = f.back; stands = f.stands; count = f.count; named = f.named; takes = f.takes; first = f.first }
 
 -- ---- Expressions
 
-abbrev expr_read : Reading → Expr → Read
+abbrev pub expr_read : Reading → Expr → Read
 expr_read r e = fold-Expr Read Pattern Qualifier Branch Branch Guard Line (List Piece) (expr_layer r) (pattern_layer r) qual_layer alt_layer branch_layer guard_layer item_layer segment_layer e
 
 module _ (r : Reading) where
-  atom_read : (e : Expr) (at : Span) (a : ℕ) → e ≡ x.Atom at a → expr_read r e ≡ literal (VAtom a)
+  pub atom_read : (e : Expr) (at : Span) (a : ℕ) → e ≡ x.Atom at a → expr_read r e ≡ literal (VAtom a)
   atom_read e at a h = ap (expr_read r) (h ∙ sym (x.rolls-Atom at a)) ∙ fold-roll-Expr Read Pattern Qualifier Branch Branch Guard Line (List Piece) (expr_layer r) (pattern_layer r) qual_layer alt_layer branch_layer guard_layer item_layer segment_layer (O.Expr::Atom at a)
 
   macro_read : (e : Expr) (at : Span) → e ≡ x.ModuleName at → expr_read r e ≡ expression (Val (VAtom r.module_name))
   macro_read e at h = ap (expr_read r) (h ∙ sym (x.rolls-ModuleName at)) ∙ fold-roll-Expr Read Pattern Qualifier Branch Branch Guard Line (List Piece) (expr_layer r) (pattern_layer r) qual_layer alt_layer branch_layer guard_layer item_layer segment_layer (O.ModuleName at)
 
-  call_read : (e : Expr) (at : Span) (home : List Expr) (name : ℕ) (args : List Expr) → e ≡ x.Call at home name args → expr_read r e ≡ expression (call r (map (expr_read r) home) name (map (expr_read r) args))
+  pub call_read : (e : Expr) (at : Span) (home : List Expr) (name : ℕ) (args : List Expr) → e ≡ x.Call at home name args → expr_read r e ≡ expression (call r (map (expr_read r) home) name (map (expr_read r) args))
   call_read e at home name args h = ap (expr_read r) (h ∙ sym (x.rolls-Call at home name args)) ∙ fold-roll-Expr Read Pattern Qualifier Branch Branch Guard Line (List Piece) (expr_layer r) (pattern_layer r) qual_layer alt_layer branch_layer guard_layer item_layer segment_layer (O.Call at home name args)
 
   trees_read : (es : List Expr) → trees (map (expr_read r) es) ≡ trees_of r es
@@ -226,12 +221,12 @@ module _ (number_at : Span → ℕ) (m : Module) where
   called_with home name arity place = let r = reading number_at m in called (module_of r (map (expr_read r) home)) (r.names name) arity place
 
   tree_read : (e : Expr) (at : Span) (home : List Expr) (name : ℕ) (args : List Expr) → e ≡ x.Call at home name args →
-      (let r = reading number_at m in tree_of r e ≡ Evaluated (called_with home name (length args) (place_from 0 m.functions name (length args))) (trees_of r args))
+      (let r = reading number_at m in tree_of r e ≡ Evaluated (called_with home name (length args) (place_of m.functions name (length args))) (trees_of r args))
   tree_read e at home name args h =
       let r = reading number_at m in
       ap (λ (u : Read). u.tree) (call_read r e at home name args h)
-      ∙ ap (λ n. Evaluated (called_with home name n (place_from 0 m.functions name n)) (trees (map (expr_read r) args))) (count_read r args)
-      ∙ ap (Evaluated (called_with home name (length args) (place_from 0 m.functions name (length args)))) (trees_read r args)
+      ∙ ap (λ n. Evaluated (called_with home name n (place_of m.functions name n)) (trees (map (expr_read r) args))) (count_read r args)
+      ∙ ap (Evaluated (called_with home name (length args) (place_of m.functions name (length args)))) (trees_read r args)
 
   at_atom : (e : Expr) (at : Span) (n : ℕ) → e ≡ x.Atom at n → (let r = reading number_at m in module_of r (map (expr_read r) (e ∷ [])) ≡ Some (slice_index_or m.atoms n []))
   at_atom e at n h = let r = reading number_at m in ap (λ u. module_of r (u ∷ [])) (atom_read r e at n h)
@@ -252,7 +247,7 @@ module _ (number_at : Span → ℕ) (m : Module) where
 
   is_built_in : (name arity : ℕ) (f : BuiltIn) → is_named (slice_index_or m.atoms name []) arity f ≡ true → IsBuiltIn m name arity f
   is_built_in name arity f h =
-      let parts = both (same_text (name_of f) (slice_index_or m.atoms name [])) (nat_eq (arity_of f) arity) h in
+      let parts = both (bytes_eq (name_of f) (slice_index_or m.atoms name [])) (nat_eq (arity_of f) arity) h in
       let same = texts_same (name_of f) (slice_index_or m.atoms name []) parts.0 in
       record { spelled = spelled_at m name (name_of f) (sym same) (name_some f); takes = eqb-true (arity_of f) arity parts.1 }
 
@@ -260,10 +255,10 @@ module _ (number_at : Span → ℕ) (m : Module) where
   at_other_home : (home : List Expr) (chars : List ℕ) (name arity place : ℕ) → (let r = reading number_at m in module_of r (map (expr_read r) home) ≡ Some chars) →
       ((f : BuiltIn) → home_of f ≡ chars → IsBuiltIn m name arity f → ⊥) → called_with home name arity place ≡ Call place
   at_other_home home chars name arity place h none =
-      let test : BuiltIn → Bool = λ f. same_text (home_of f) chars && is_named (slice_index_or m.atoms name []) arity f in
+      let test : BuiltIn → Bool = λ f. bytes_eq (home_of f) chars && is_named (slice_index_or m.atoms name []) arity f in
       ap (λ o. called o (slice_index_or m.atoms name []) arity place) h
       ∙ found_none (find test BUILT_INS) place (λ f e.
-      let parts = both (same_text (home_of f) chars) (is_named (slice_index_or m.atoms name []) arity f) (is_test test BUILT_INS f e) in
+      let parts = both (bytes_eq (home_of f) chars) (is_named (slice_index_or m.atoms name []) arity f) (is_test test BUILT_INS f e) in
       none f (texts_same (home_of f) chars parts.0) (is_built_in name arity f parts.1))
 
   own_form : (home : List Expr) (name arity place : ℕ) → CallsOwn m home name arity → ((f : BuiltIn) → CallsBuiltIn m home name arity f → ⊥) →
@@ -282,7 +277,7 @@ module _ (number_at : Span → ℕ) (m : Module) where
 
 pub calls_are_read : CallsAreRead
 calls_are_read number_at m e at home name args h =
-    let place : ℕ = place_from 0 m.functions name (length args) in
+    let place : ℕ = place_of m.functions name (length args) in
     let r = reading number_at m in
     let read = tree_read number_at m e at home name args h in
     record {

@@ -1,10 +1,13 @@
 -- A character's spelling in front of bits is read back.
 use Rattle.std.proofs.Common.{◌≡◌, ◌⊎◌, inl, inr, ℕ, ◌+◌, ◌-◌, ◌*◌, ◌/◌, ◌%◌, ◌^◌, ◌<◌, ◌≤◌, Bool, true, false, IsTrue, List, [], ◌∷◌, ◌++◌, length, map, take, drop, Option, Some, None, pos, refl, ap, sym, ◌∙◌, arith, append_assoc, subst}
 use Rattle.std.specs.Prelude.{cond, ◌&&◌, nat_lt, is_some}
-use Rattle.std.specs.List.{range_with_len}
+use Rattle.std.specs.List.{range_with_len, find, starts_with}
+use Rattle.std.specs.Ordering.{is_eq, bool_cmp}
+use Rattle.std.specs.Bool.{Decides}
 use Rattle.std.proofs.lemmas.Bool.{cases_lt, lt-ltb, le-ltb}
 use Rattle.std.proofs.lemmas.Bool.Decides.{nat_tests}
-use Rattle.std.proofs.lemmas.List.{drop_at}
+use Rattle.std.proofs.lemmas.List.{drop_at, take_at}
+use Rattle.std.proofs.lemmas.Slice.Eq.{slice_eq-Decides}
 use Rattle.bits_value.specs.Bits.{bit_of, bit_in, bit_list, all_bits}
 use Rattle.term_value.specs.Value.{VInt}
 use Rattle.term_value.specs.Tree.{Variable}
@@ -21,7 +24,7 @@ use Rattle.bits_value.proofs.Copied.{all_bits-append}
 use Rattle.utf_segments.proofs.Candidates.{character-lt}
 use Rattle.utf_segments.proofs.Fronts.{alone}
 use Rattle.term_value.specs.Laws.{CharacterReadsBack}
-use Rattle.term_value.specs.Characters.{bits_of_bytes, spelling, first_unit, second_unit, candidates, begins_with, first_where, first_spelled}
+use Rattle.term_value.specs.Characters.{spelling, first_unit, second_unit, candidates, is_in_front}
 
 -- ---- The bits of bytes
 
@@ -29,28 +32,25 @@ byte_bits : (b : ℕ) → all_bits (b ∷ []) ≡ big_bits 8 b
 unfolding all_bits bit_list bit_in big_bits
 byte_bits b = refl
 
-no_bits : all_bits [] ≡ []
-unfolding all_bits bit_list
-no_bits = refl
-
-bits_are : (bytes : List ℕ) → bits_of_bytes bytes ≡ all_bits bytes
-bits_are [] = sym no_bits
-bits_are (b ∷ bytes) = ap (λ l. big_bits 8 b ++ l) (bits_are bytes) ∙ ap (λ l. l ++ all_bits bytes) (sym (byte_bits b)) ∙ sym (all_bits-append (b ∷ []) bytes)
+ahead : (a : ℕ) (bytes : List ℕ) (r : List Bool) → all_bits (a ∷ bytes) ++ r ≡ big_bits 8 a ++ (all_bits bytes ++ r)
+ahead a bytes r = ap (λ l. l ++ r) (all_bits-append (a ∷ []) bytes ∙ ap (λ l. l ++ all_bits bytes) (byte_bits a)) ∙ append_assoc (big_bits 8 a) (all_bits bytes) r
 
 -- ---- The first that is spelled
 
-begins_itself : (front rest : List Bool) → begins_with front (front ++ rest) ≡ true
-begins_itself [] rest = refl
-begins_itself (true ∷ front) rest = begins_itself front rest
-begins_itself (false ∷ front) rest = begins_itself front rest
+abbrev same : Bool → Bool → Bool
+same b d = is_eq (bool_cmp b d)
 
-begins_is : (front bits : List Bool) → begins_with front bits ≡ true → Begins front bits
-begins_is [] bits e = refl
-begins_is (b ∷ front) [] e = cc e
-begins_is (true ∷ front) (true ∷ bits) e = ap (λ l. true ∷ l) (begins_is front bits e)
-begins_is (true ∷ front) (false ∷ bits) e = cc e
-begins_is (false ∷ front) (true ∷ bits) e = cc e
-begins_is (false ∷ front) (false ∷ bits) e = ap (λ l. false ∷ l) (begins_is front bits e)
+bits_decide : (b d : Bool) → Decides (same b d) (b ≡ d)
+bits_decide true true = (λ e. refl, λ e. refl)
+bits_decide true false = (λ e. cc e, λ e. cc e)
+bits_decide false true = (λ e. cc e, λ e. cc e)
+bits_decide false false = (λ e. refl, λ e. refl)
+
+begins_itself : (front rest : List Bool) → starts_with same (front ++ rest) front ≡ true
+begins_itself front rest = (slice_eq-Decides bits_decide front (take (length front) (front ++ rest)) _ refl).1 (sym (take_at front rest (length front) refl))
+
+begins_is : (front bits : List Bool) → starts_with same bits front ≡ true → Begins front bits
+begins_is front bits e = sym ((slice_eq-Decides bits_decide front (take (length front) bits) _ refl).0 e)
 
 and_parts : (a b : Bool) → (a && b) ≡ true → (a ≡ true) × (b ≡ true)
 and_parts true b e = (refl, e)
@@ -65,32 +65,26 @@ module _ (utf : UtfKind) (endian : Endian) (c : ℕ) (rest : List Bool) (is : Is
   front = spelling utf endian c ++ rest
 
   abbrev stands : ℕ → Bool
-  stands d = is_character d && begins_with (spelling utf endian d) front
+  stands d = is_in_front utf endian front d
 
   -- whatever character is spelled in front is this one
   no_other : (d : ℕ) → stands d ≡ true → d ≡ c
   no_other d e =
-      let both = and_parts (is_character d) (begins_with (spelling utf endian d) front) e in
-      let begins : Begins (spelling utf endian d) front = begins_is (spelling utf endian d) front both.1 in
-      let P : List Bool → Type 0 = λ l. Begins l front in
-      let Q : List Bool → Type 0 = λ l. Begins (all_bits (utf_bytes utf endian d)) (l ++ rest) in
-      alone utf endian c d rest is both.0 (subst Q (bits_are (utf_bytes utf endian c)) (subst P (bits_are (utf_bytes utf endian d)) begins))
+      let both = and_parts (is_character d) (starts_with same front (spelling utf endian d)) e in
+      alone utf endian c d rest is both.0 (begins_is (spelling utf endian d) front both.1)
 
   it_stands : stands c ≡ true
-  it_stands = ap (λ b. b && begins_with (spelling utf endian c) front) is ∙ begins_itself (spelling utf endian c) rest
+  it_stands = ap (λ b. b && starts_with same front (spelling utf endian c)) is ∙ begins_itself (spelling utf endian c) rest
 
-  abbrev first_of : List ℕ → Option ℕ
-  first_of ds = first_spelled utf endian front ds
-
-  go_on : (d : ℕ) (later : Option ℕ) (b : Bool) → stands d ≡ b → ((d ≡ c) ⊎ (later ≡ Some c)) → first_where b d later ≡ Some c
+  go_on : (d : ℕ) (later : Option ℕ) (b : Bool) → stands d ≡ b → ((d ≡ c) ⊎ (later ≡ Some c)) → cond b (Some d) later ≡ Some c
   go_on d later true e f = ap Some (no_other d e)
   go_on d later false e (inl s) = let t : true ≡ false = sym it_stands ∙ ap stands (sym s) ∙ e in cc t
   go_on d later false e (inr s) = s
 
-  found : (ds : List ℕ) → Among c ds → first_of ds ≡ Some c
+  found : (ds : List ℕ) → Among c ds → find stands ds ≡ Some c
   found [] h = absurd h
-  found (d ∷ ds) (inl e) = go_on d (first_of ds) (stands d) refl (inl e)
-  found (d ∷ ds) (inr h) = go_on d (first_of ds) (stands d) refl (inr (found ds h))
+  found (d ∷ ds) (inl e) = go_on d (find stands ds) (stands d) refl (inl e)
+  found (d ∷ ds) (inr h) = go_on d (find stands ds) (stands d) refl (inr (found ds h))
 
 -- ---- The numbers that the bits of bytes have
 
@@ -198,24 +192,18 @@ module _ (a b c d : ℕ) (r : List Bool) where
       let o : natural w ≡ a % 0x100 = lows a 7 in
       h ∙ omega arith
 
-  -- the shapes of bytes in front of bits
-  of_one : bits_of_bytes (a ∷ []) ++ r ≡ big_bits 8 a ++ r
-  of_one = append_assoc (big_bits 8 a) [] r
+-- the shapes of bytes in front of bits
+of_one : (a : ℕ) (r : List Bool) → all_bits (a ∷ []) ++ r ≡ big_bits 8 a ++ r
+of_one a r = ap (λ l. l ++ r) (byte_bits a)
 
-  of_two : bits_of_bytes (a ∷ b ∷ []) ++ r ≡ big_bits 8 a ++ (big_bits 8 b ++ r)
-  of_two = append_assoc (big_bits 8 a) (big_bits 8 b ++ []) r ∙ ap (λ l. big_bits 8 a ++ l) (append_assoc (big_bits 8 b) [] r)
+of_two : (a b : ℕ) (r : List Bool) → all_bits (a ∷ b ∷ []) ++ r ≡ big_bits 8 a ++ (big_bits 8 b ++ r)
+of_two a b r = ahead a (b ∷ []) r ∙ ap (λ l. big_bits 8 a ++ l) (of_one b r)
 
-  of_three : bits_of_bytes (a ∷ b ∷ c ∷ []) ++ r ≡ big_bits 8 a ++ (big_bits 8 b ++ (big_bits 8 c ++ r))
-  of_three =
-      append_assoc (big_bits 8 a) (big_bits 8 b ++ (big_bits 8 c ++ [])) r
-      ∙ ap (λ l. big_bits 8 a ++ l) (append_assoc (big_bits 8 b) (big_bits 8 c ++ []) r ∙ ap (λ l. big_bits 8 b ++ l) (append_assoc (big_bits 8 c) [] r))
+of_three : (a b c : ℕ) (r : List Bool) → all_bits (a ∷ b ∷ c ∷ []) ++ r ≡ big_bits 8 a ++ (big_bits 8 b ++ (big_bits 8 c ++ r))
+of_three a b c r = ahead a (b ∷ c ∷ []) r ∙ ap (λ l. big_bits 8 a ++ l) (of_two b c r)
 
-  of_four : bits_of_bytes (a ∷ b ∷ c ∷ d ∷ []) ++ r ≡ four
-  of_four =
-      append_assoc (big_bits 8 a) (big_bits 8 b ++ (big_bits 8 c ++ (big_bits 8 d ++ []))) r
-      ∙ ap (λ l. big_bits 8 a ++ l) (
-      append_assoc (big_bits 8 b) (big_bits 8 c ++ (big_bits 8 d ++ [])) r
-      ∙ ap (λ l. big_bits 8 b ++ l) (append_assoc (big_bits 8 c) (big_bits 8 d ++ []) r ∙ ap (λ l. big_bits 8 c ++ l) (append_assoc (big_bits 8 d) [] r)))
+of_four : (a b c d : ℕ) (r : List Bool) → all_bits (a ∷ b ∷ c ∷ d ∷ []) ++ r ≡ four a b c d r
+of_four a b c d r = ahead a (b ∷ c ∷ d ∷ []) r ∙ ap (λ l. big_bits 8 a ++ l) (of_three b c d r)
 
 -- ---- The character is among the candidates
 
@@ -234,22 +222,22 @@ utf8-four c g = grind (arith, nat_tests)
 module _ (endian : Endian) (c : ℕ) (rest : List Bool) where
   among-one : c < 0x80 → Among c (candidates Utf8 endian (spelling Utf8 endian c ++ rest))
   among-one h =
-      let shape = ap (λ l. bits_of_bytes l ++ rest) (utf8-one c h) ∙ of_one c 0 0 0 rest in
+      let shape = ap (λ l. all_bits l ++ rest) (utf8-one c h) ∙ of_one c rest in
       inl (ap (λ l. natural (take 8 l)) shape ∙ one_byte c 0 0 0 rest ∙ omega arith)
 
   among-two : 0x80 ≤ c → c < 0x800 → Among c (candidates Utf8 endian (spelling Utf8 endian c ++ rest))
   among-two g h =
-      let shape = ap (λ l. bits_of_bytes l ++ rest) (utf8-two c g h) ∙ of_two (0xC0 + c / 0x40) (0x80 + c % 0x40) 0 0 rest in
+      let shape = ap (λ l. all_bits l ++ rest) (utf8-two c g h) ∙ of_two (0xC0 + c / 0x40) (0x80 + c % 0x40) rest in
       inr (inl (ap (λ l. natural (take 5 (drop 3 l) ++ take 6 (drop 10 l))) shape ∙ two_bytes (0xC0 + c / 0x40) (0x80 + c % 0x40) 0 0 rest ∙ omega arith))
 
   among-three : 0x800 ≤ c → c < 0x1_0000 → Among c (candidates Utf8 endian (spelling Utf8 endian c ++ rest))
   among-three g h =
-      let shape = ap (λ l. bits_of_bytes l ++ rest) (utf8-three c g h) ∙ of_three (0xE0 + c / 0x1000) (0x80 + c / 0x40 % 0x40) (0x80 + c % 0x40) 0 rest in
+      let shape = ap (λ l. all_bits l ++ rest) (utf8-three c g h) ∙ of_three (0xE0 + c / 0x1000) (0x80 + c / 0x40 % 0x40) (0x80 + c % 0x40) rest in
       inr (inr (inl (ap (λ l. natural (take 4 (drop 4 l) ++ take 6 (drop 10 l) ++ take 6 (drop 18 l))) shape ∙ three_bytes (0xE0 + c / 0x1000) (0x80 + c / 0x40 % 0x40) (0x80 + c % 0x40) 0 rest ∙ omega arith)))
 
   among-four : 0x1_0000 ≤ c → c < 0x11_0000 → Among c (candidates Utf8 endian (spelling Utf8 endian c ++ rest))
   among-four g h =
-      let shape = ap (λ l. bits_of_bytes l ++ rest) (utf8-four c g) ∙ of_four (0xF0 + c / 0x4_0000) (0x80 + c / 0x1000 % 0x40) (0x80 + c / 0x40 % 0x40) (0x80 + c % 0x40) rest in
+      let shape = ap (λ l. all_bits l ++ rest) (utf8-four c g) ∙ of_four (0xF0 + c / 0x4_0000) (0x80 + c / 0x1000 % 0x40) (0x80 + c / 0x40 % 0x40) (0x80 + c % 0x40) rest in
       inr (inr (inr (inl (ap (λ l. natural (take 3 (drop 5 l) ++ take 6 (drop 10 l) ++ take 6 (drop 18 l) ++ take 6 (drop 26 l))) shape
       ∙ four_bytes (0xF0 + c / 0x4_0000) (0x80 + c / 0x1000 % 0x40) (0x80 + c / 0x40 % 0x40) (0x80 + c % 0x40) rest ∙ omega arith))))
 
@@ -273,32 +261,33 @@ utf16-one endian c h = ap (λ (b : Bool). cond b (unit_bytes endian c) (unit_byt
 utf16-two : (endian : Endian) (c : ℕ) → 0x1_0000 ≤ c → utf16_bytes endian c ≡ unit_bytes endian (0xD800 + (c - 0x1_0000) / 0x400) ++ unit_bytes endian (0xDC00 + (c - 0x1_0000) % 0x400)
 utf16-two endian c h = ap (λ (b : Bool). cond b (unit_bytes endian c) (unit_bytes endian (0xD800 + (c - 0x1_0000) / 0x400) ++ unit_bytes endian (0xDC00 + (c - 0x1_0000) % 0x400))) (le-ltb c 0x1_0000 h)
 
-first_is : (endian : Endian) (u : ℕ) (r : List Bool) → u < 0x1_0000 → first_unit endian (bits_of_bytes (unit_bytes endian u) ++ r) ≡ u
-first_is Big u r h = ap (λ l. natural (take 16 l)) (of_two (u / 0x100) (u % 0x100) 0 0 r) ∙ unit_big (u / 0x100) (u % 0x100) 0 0 r ∙ omega arith
-first_is Little u r h = ap (λ l. natural (reordered (take 16 l))) (of_two (u % 0x100) (u / 0x100) 0 0 r) ∙ unit_little (u % 0x100) (u / 0x100) 0 0 r ∙ omega arith
+first_is : (endian : Endian) (u : ℕ) (r : List Bool) → u < 0x1_0000 → first_unit endian (all_bits (unit_bytes endian u) ++ r) ≡ u
+first_is Big u r h = ap (λ l. natural (take 16 l)) (of_two (u / 0x100) (u % 0x100) r) ∙ unit_big (u / 0x100) (u % 0x100) 0 0 r ∙ omega arith
+first_is Little u r h = ap (λ l. natural (reordered (take 16 l))) (of_two (u % 0x100) (u / 0x100) r) ∙ unit_little (u % 0x100) (u / 0x100) 0 0 r ∙ omega arith
 
-drop_two : (a b : ℕ) (r : List Bool) → drop 16 (bits_of_bytes (a ∷ b ∷ []) ++ r) ≡ r
+drop_bytes : (a b : ℕ) (r : List Bool) → drop 16 (big_bits 8 a ++ (big_bits 8 b ++ r)) ≡ r
 unfolding big_bits
-drop_two a b r = refl
+drop_bytes a b r = refl
 
-second_is : (endian : Endian) (u v : ℕ) (r : List Bool) → v < 0x1_0000 → second_unit endian (bits_of_bytes (unit_bytes endian u) ++ (bits_of_bytes (unit_bytes endian v) ++ r)) ≡ v
-second_is Big u v r h = ap (λ l. natural (take 16 l)) (drop_two (u / 0x100) (u % 0x100) (bits_of_bytes (unit_bytes Big v) ++ r)) ∙ first_is Big v r h
-second_is Little u v r h = ap (λ l. natural (reordered (take 16 l))) (drop_two (u % 0x100) (u / 0x100) (bits_of_bytes (unit_bytes Little v) ++ r)) ∙ first_is Little v r h
+drop_two : (a b : ℕ) (r : List Bool) → drop 16 (all_bits (a ∷ b ∷ []) ++ r) ≡ r
+drop_two a b r = ap (drop 16) (of_two a b r) ∙ drop_bytes a b r
 
-joined_bits : (xs ys : List ℕ) (r : List Bool) → bits_of_bytes (xs ++ ys) ++ r ≡ bits_of_bytes xs ++ (bits_of_bytes ys ++ r)
-joined_bits [] ys r = refl
-joined_bits (x ∷ xs) ys r =
-    append_assoc (big_bits 8 x) (bits_of_bytes (xs ++ ys)) r ∙ ap (λ l. big_bits 8 x ++ l) (joined_bits xs ys r) ∙ sym (append_assoc (big_bits 8 x) (bits_of_bytes xs) (bits_of_bytes ys ++ r))
+second_is : (endian : Endian) (u v : ℕ) (r : List Bool) → v < 0x1_0000 → second_unit endian (all_bits (unit_bytes endian u) ++ (all_bits (unit_bytes endian v) ++ r)) ≡ v
+second_is Big u v r h = ap (λ l. natural (take 16 l)) (drop_two (u / 0x100) (u % 0x100) (all_bits (unit_bytes Big v) ++ r)) ∙ first_is Big v r h
+second_is Little u v r h = ap (λ l. natural (reordered (take 16 l))) (drop_two (u % 0x100) (u / 0x100) (all_bits (unit_bytes Little v) ++ r)) ∙ first_is Little v r h
+
+joined_bits : (xs ys : List ℕ) (r : List Bool) → all_bits (xs ++ ys) ++ r ≡ all_bits xs ++ (all_bits ys ++ r)
+joined_bits xs ys r = ap (λ l. l ++ r) (all_bits-append xs ys) ∙ append_assoc (all_bits xs) (all_bits ys) r
 
 among-utf16 : (endian : Endian) (c : ℕ) (rest : List Bool) → c < 0x11_0000 → Among c (candidates Utf16 endian (spelling Utf16 endian c ++ rest))
 among-utf16 endian c rest h = elim (cases_lt c 0x1_0000) [
-  | inl a ↦ inl (ap (λ l. first_unit endian (bits_of_bytes l ++ rest)) (utf16-one endian c a) ∙ first_is endian c rest a)
+  | inl a ↦ inl (ap (λ l. first_unit endian (all_bits l ++ rest)) (utf16-one endian c a) ∙ first_is endian c rest a)
   | inr b ↦
       let u : ℕ = 0xD800 + (c - 0x1_0000) / 0x400 in
       let v : ℕ = 0xDC00 + (c - 0x1_0000) % 0x400 in
-      let shape : spelling Utf16 endian c ++ rest ≡ bits_of_bytes (unit_bytes endian u) ++ (bits_of_bytes (unit_bytes endian v) ++ rest) =
-      ap (λ l. bits_of_bytes l ++ rest) (utf16-two endian c b) ∙ joined_bits (unit_bytes endian u) (unit_bytes endian v) rest in
-      let e : first_unit endian (spelling Utf16 endian c ++ rest) ≡ u = ap (first_unit endian) shape ∙ first_is endian u (bits_of_bytes (unit_bytes endian v) ++ rest) (omega arith) in
+      let shape : spelling Utf16 endian c ++ rest ≡ all_bits (unit_bytes endian u) ++ (all_bits (unit_bytes endian v) ++ rest) =
+      ap (λ l. all_bits l ++ rest) (utf16-two endian c b) ∙ joined_bits (unit_bytes endian u) (unit_bytes endian v) rest in
+      let e : first_unit endian (spelling Utf16 endian c ++ rest) ≡ u = ap (first_unit endian) shape ∙ first_is endian u (all_bits (unit_bytes endian v) ++ rest) (omega arith) in
       let f : second_unit endian (spelling Utf16 endian c ++ rest) ≡ v = ap (second_unit endian) shape ∙ second_is endian u v rest (omega arith) in
       let g : 0x1_0000 + u % 0x400 * 0x400 + v % 0x400 ≡ c = omega arith in
       inr (inl (ap (λ m. 0x1_0000 + m % 0x400 * 0x400 + second_unit endian (spelling Utf16 endian c ++ rest) % 0x400) e ∙ ap (λ m. 0x1_0000 + u % 0x400 * 0x400 + m % 0x400) f ∙ g))

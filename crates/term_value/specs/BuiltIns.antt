@@ -1,18 +1,20 @@
 -- The values of the built-in functions (Erlang Reference Manual, "Expressions": Guard Expressions; module `erlang`:
 -- `binary_part/3`, `split_binary/2`, `list_to_binary/1` and the others; `lists:reverse/1`). Results are exact here: bounds
 -- are tested where they are used.
-use Rattle.std.specs.Prelude.{ℕ, pos, negsuc, zero, suc, ◌+◌, ◌-◌, ◌*◌, ◌/◌, ◌%◌, Bool, true, false, ◌&&◌, List, [], ◌∷◌, ◌++◌, length, take, drop, Option, Some, None, cond, nat_eq, nat_le, nat_lt, is_some, nat_abs, neg_ℤ}
+use Rattle.std.specs.Prelude.{ℕ, pos, negsuc, zero, suc, ◌+◌, ◌-◌, ◌*◌, ◌/◌, ◌%◌, Bool, true, false, ◌&&◌, List, [], ◌∷◌, ◌++◌, map, length, take, drop, Option, Some, None, cond, nat_eq, nat_le, nat_lt, is_some, nat_abs, neg_ℤ}
 use Rattle.std.specs.Fmt.{signed_decimal}
+use Rattle.std.specs.List.{list_all}
 use Rattle.std.specs.Ordering.{is_lt, is_gt}
+use Rattle.bits_value.specs.Bits.{all_bits}
 use Rattle.bits_value.specs.Number.{natural, big_bits}
+use Rattle.erl_syntax.specs.Characters.{is_digit, number as number_of}
 use Rattle.erl_syntax.specs.declared.built_in.BuiltIn.{BuiltIn}
 use Rattle.erl_syntax.specs.declared.built_in.BuiltIn.TheVariants.{IsInteger, IsNumber, IsAtom, IsBoolean, IsPid, IsTuple, IsList, IsBinary, IsBitstring, BitSize, ByteSize, TupleSize, Element, Length, Hd, Tl, Abs, Max, Min, SelfPid, BinaryPart, BinaryPartOf, Exit, Error, SplitBinary, BinaryToList, ListToBinary, IntegerToBinary, BinaryToInteger, TupleToList, ListToTuple, Reverse}
-use Rattle.term_value.specs.Value.{Value, VInt, VAtom, VPid, VTuple, VList, VBits, Values, none, more, count}
+use Rattle.term_value.specs.Value.{Value, VInt, VAtom, VPid, VTuple, VList, VBits, Values, none, more, row, count}
 use Rattle.term_value.specs.Order.{order}
 use Rattle.erl_syntax.specs.Atoms.{a_badarg, a_function_clause}
 use Rattle.term_value.specs.Result.{Raise, Result, Gives, Stops, raise, truth, truth_of}
 use Rattle.term_value.specs.Setting.{Setting}
-use Rattle.term_value.specs.Characters.{bits_of_bytes}
 
 abbrev pub badarg : Result
 badarg = Stops (raise a_badarg)
@@ -135,8 +137,7 @@ bytes_of zero bits = []
 bytes_of (suc n) bits = natural (take 8 bits) ∷ bytes_of n (drop 8 bits)
 
 abbrev pub integers : List ℕ → Values
-integers [] = none
-integers (n ∷ ns) = more (VInt (pos n)) (integers ns)
+integers ns = row (map (λ n. VInt (pos n)) ns)
 
 abbrev pub binary_to_list : Value → Result
 binary_to_list (VBits bits) = cond (is_whole bits) (Gives (VList (integers (bytes_of (length bits / 8) bits)))) badarg
@@ -168,21 +169,13 @@ list_to_binary _ = badarg
 
 -- decimal text
 abbrev pub integer_to_binary : Value → Result
-integer_to_binary (VInt n) = Gives (VBits (bits_of_bytes (signed_decimal n)))
+integer_to_binary (VInt n) = Gives (VBits (all_bits (signed_decimal n)))
 integer_to_binary _ = badarg
-
-abbrev pub is_digit : ℕ → Bool
-is_digit c = nat_le 48 c && nat_le c 57
-
--- the number of the digits so far and these
-abbrev pub digits_onto : ℕ → List ℕ → Option ℕ
-digits_onto n [] = Some n
-digits_onto n (c ∷ cs) = cond (is_digit c) (digits_onto (10 * n + (c - 48)) cs) None
 
 -- at least one digit, and nothing else
 abbrev pub digits_number : List ℕ → Option ℕ
 digits_number [] = None
-digits_number (c ∷ cs) = digits_onto 0 (c ∷ cs)
+digits_number (c ∷ cs) = cond (list_all (is_digit 10) (c ∷ cs)) (Some (number_of 10 (c ∷ cs))) None
 
 abbrev pub positive : Option ℕ → Result
 positive (Some n) = number n

@@ -1,6 +1,6 @@
 -- Taking a segment of a pattern off the front of bits (Erlang Reference Manual, "Bit Syntax Expressions"; the limit is this
 -- project's own).
-use Rattle.std.specs.Prelude.{ℕ, ℤ, pos, ◌*◌, ◌%◌, Bool, true, false, List, [], ◌∷◌, ◌++◌, length, take, drop, Option, Some, None, is_some, nat_eq, nat_le}
+use Rattle.std.specs.Prelude.{ℕ, ℤ, pos, ◌*◌, ◌%◌, Bool, true, false, List, [], ◌∷◌, ◌++◌, length, take, drop, Option, Some, None, cond, is_some, nat_eq, nat_le}
 use Rattle.bits_value.specs.Number.{number, bounded}
 use Rattle.bits_value.specs.declared.Endian.{Endian}
 use Rattle.bits_value.specs.declared.UtfKind.{UtfKind}
@@ -48,12 +48,19 @@ pub data Taken : Type 0 where
   NoCut : Taken
   CutLimit : Taken
 
+-- the bindings so far and one more
 abbrev pub bound_to : ℕ → Value → List Bound → List Bound
 bound_to x v bs = bs ++ record { variable = x; value = v } ∷ []
 
-abbrev pub cut_where : Bool → List Bound → List Bool → Taken
-cut_where true bs rest = Cut bs rest
-cut_where false bs rest = NoCut
+-- The bindings where a value is what is wanted: anything is, an equal value is, and a variable is bound to the value.
+abbrev pub met : Setting → Target → Value → List Bound → Option (List Bound)
+met s Anything v bs = Some bs
+met s (Equal w) v bs = cond (same s.names w v) (Some bs) None
+met s (Variable x) v bs = Some (bound_to x v bs)
+
+abbrev pub cut_where : Option (List Bound) → List Bool → Taken
+cut_where (Some bs) rest = Cut bs rest
+cut_where None rest = NoCut
 
 -- limit where a variable is to be bound to a number outside the bound
 abbrev pub bind_where : Bool → ℕ → Value → List Bound → List Bool → Taken
@@ -62,14 +69,11 @@ bind_where false x v bs rest = CutLimit
 
 -- A number of any size is skipped, or compared with a literal or a variable's value.
 abbrev pub number_taken : Setting → Target → ℤ → List Bound → List Bool → Taken
-number_taken s Anything n bs rest = Cut bs rest
-number_taken s (Equal v) n bs rest = cut_where (same s.names v (VInt n)) bs rest
 number_taken s (Variable x) n bs rest = bind_where (is_some (bounded n)) x (VInt n) bs rest
+number_taken s target n bs rest = cut_where (met s target (VInt n) bs) rest
 
 abbrev pub part_taken : Setting → Target → List Bool → List Bound → List Bool → Taken
-part_taken s Anything part bs rest = Cut bs rest
-part_taken s (Equal v) part bs rest = cut_where (same s.names v (VBits part)) bs rest
-part_taken s (Variable x) part bs rest = Cut (bound_to x (VBits part) bs) rest
+part_taken s target part bs rest = cut_where (met s target (VBits part) bs) rest
 
 abbrev pub character_taken : Setting → UtfKind → Endian → Target → Option ℕ → List Bound → List Bool → Taken
 character_taken s utf endian target None bs bits = NoCut

@@ -2,6 +2,7 @@
 -- the Erlang Reference Manual's, "Processes"; that each is one entry of an order, and the bound on processes, are this
 -- project's own).
 use Rattle.std.specs.Prelude.{◌≡◌, ℕ, zero, suc, ◌+◌, ◌≤◌, Bool, true, false, ◌&&◌, List, [], ◌∷◌, ◌++◌, codes, Option, Some, None, nat_eq, slice_get, slice_set, length}
+use Rattle.std.specs.List.{position, AllByRecursion}
 use Rattle.term_value.specs.Value.{Value, VAtom, VPid, Values, none, more, count}
 use Rattle.erl_syntax.specs.Atoms.{a_undef}
 use Rattle.erl_syntax.specs.Reading.{number_in}
@@ -98,17 +99,12 @@ abbrev pub value_trees : Values → Trees
 value_trees none = end
 value_trees (more v vs) = and (Val v) (value_trees vs)
 
-abbrev pub place_where : Bool → ℕ → Option ℕ → Option ℕ
-place_where true place later = Some place
-place_where false place later = later
-
--- the place of the exported function with this name and number of arguments, of functions that stand from a place on
-abbrev pub exported_from : ℕ → List Function → ℕ → ℕ → Option ℕ
-exported_from place [] name arity = None
-exported_from place (f ∷ fs) name arity = place_where (f.exported && (nat_eq f.name name && nat_eq f.arity arity)) place (exported_from (place + 1) fs name arity)
+-- the place of the exported function with this name and number of arguments
+abbrev pub exported_at : List Function → ℕ → ℕ → Option ℕ
+exported_at functions name arity = position (λ f. f.exported && (nat_eq f.name name && nat_eq f.arity arity)) functions
 
 abbrev pub exported_in : Bool → Module → ℕ → ℕ → Option ℕ
-exported_in true code name arity = exported_from 0 code.functions name arity
+exported_in true code name arity = exported_at code.functions name arity
 exported_in false code name arity = None
 
 abbrev pub call_of : Option ℕ → Values → Course
@@ -173,15 +169,11 @@ Ends (Some EndsDone) = Unit {0}
 Ends (Some (EndsRaised reason)) = Unit {0}
 Ends _ = ⊥
 
+-- it doesn't run, or it asks for more, with nothing unseen
 abbrev pub WaitsAlone : Module → Process → Type 0
 WaitsAlone code (Running local []) = Waits (Some (ask_of code local))
 WaitsAlone code (Running local (v ∷ unseen)) = ⊥
 WaitsAlone code _ = Unit {0}
-
--- every running process asks for more, with nothing unseen
-abbrev pub AllWait : Module → List Process → Type 0
-AllWait code [] = Unit {0}
-AllWait code (process ∷ processes) = WaitsAlone code process × AllWait code processes
 
 abbrev pub Runs : Option Process → Type 0
 Runs (Some (Running local unseen)) = Unit {0}
@@ -199,7 +191,7 @@ Legal m (Shown pid) = Shows (ask_at m pid)
 Legal m (Started pid child) = Starts (ask_at m pid) × (child ≡ length m.processes + 1) × (child ≤ process_bound)
 Legal m (Full pid) = Starts (ask_at m pid) × (length m.processes ≡ process_bound)
 Legal m (Ended pid) = Ends (ask_at m pid)
-Legal m (Stopped pid) = Runs (process_at m pid) × AllWait m.code m.processes
+Legal m (Stopped pid) = Runs (process_at m pid) × AllByRecursion (WaitsAlone m.code) m.processes
 Legal m (Gone pid births drops moved) = IsOver (process_at m pid)
 
 -- the state after an order
@@ -216,13 +208,9 @@ abbrev pub IsGone : Process → Type 0
 IsGone (Left how) = Unit {0}
 IsGone _ = ⊥
 
-abbrev pub AllGone : List Process → Type 0
-AllGone [] = Unit {0}
-AllGone (process ∷ processes) = IsGone process × AllGone processes
-
 -- every process that was started is gone
 abbrev pub IsComplete : Machine → List Entry → Type 0
-IsComplete m entries = AllGone (after m entries).processes
+IsComplete m entries = AllByRecursion IsGone (after m entries).processes
 
 -- at first process 1 runs with the call `main()`
 abbrev pub start_of : Module → ℕ → Machine

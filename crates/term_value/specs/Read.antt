@@ -7,7 +7,7 @@ use Rattle.erl_syntax.specs.declared.expr.Op.{Op}
 use Rattle.erl_syntax.specs.declared.expr.Op.TheVariants as o
 use Rattle.erl_syntax.specs.declared.expr.Prefix.{Prefix}
 use Rattle.erl_syntax.specs.declared.expr.Prefix.TheVariants as p
-use Rattle.term_value.specs.Value.{Value, VInt, VAtom, VList, row}
+use Rattle.term_value.specs.Value.{Value, VInt, VAtom}
 use Rattle.erl_syntax.specs.Atoms.{a_ok}
 use Rattle.term_value.specs.Segment.{Typed}
 use Rattle.term_value.specs.Typing.{typed_of}
@@ -45,9 +45,6 @@ trees (r ∷ reads) = and r.tree (trees reads)
 abbrev pub only : List Read → Tree
 only [] = Val (VAtom a_ok)
 only (r ∷ reads) = r.tree
-
-abbrev pub integers : List ℕ → Value
-integers letters = VList (row (map (λ c. VInt (pos c)) letters))
 
 -- a segment that was read: its type, its value, its size where one is written
 pub record Piece : Type 0 where

@@ -1,8 +1,9 @@
 -- The next contraction of an expression: its first open part is replaced (Erlang Reference Manual, "Expressions",
 -- "Comprehensions", "Processes"; that parts open left to right is this project's own).
-use Rattle.std.specs.Prelude.{ℕ, Bool, true, false, List, [], ◌∷◌, ◌++◌, Option, Some, None, slice_get, slice_index_or}
+use Rattle.std.specs.Prelude.{ℕ, Bool, true, false, List, [], ◌∷◌, ◌++◌, Option, Some, None, slice_get}
 use Rattle.term_value.specs.Value.{Value, VAtom, VPid, VList, VBits, Values, none, more}
 use Rattle.erl_syntax.specs.Atoms.{a_badarg, a_badmatch, a_case_clause, a_if_clause, a_function_clause, a_bad_generator, a_bad_filter, a_undef}
+use Rattle.erl_syntax.specs.Reading.{characters_in}
 use Rattle.term_value.specs.Result.{Stop, Limit, Result, Gives, Stops, raise, raise_of, truth_of}
 use Rattle.term_value.specs.Bounds.{within}
 use Rattle.term_value.specs.Setting.{Setting}
@@ -19,7 +20,7 @@ pub record World : Type 0 where
 
 -- the characters of an atom
 abbrev pub name_in : Module → ℕ → List ℕ
-name_in code atom = slice_index_or code.atoms atom []
+name_in code atom = characters_in code.atoms atom
 
 abbrev pub setting : World → Setting
 setting w = record { names = name_in w.code; pid = w.pid }

@@ -1,13 +1,13 @@
 -- Small bit expressions and patterns, and what they give.
-use Rattle.std.specs.Prelude.{◌≡◌, ℕ, pos, negsuc, Bool, true, false, List, [], ◌∷◌, ◌++◌, codes, slice_index_or}
-use Rattle.std.specs.List.{flat_map}
-use Rattle.bits_value.specs.Number.{big_bits}
+use Rattle.std.specs.Prelude.{◌≡◌, ℕ, pos, negsuc, Bool, true, false, List, [], ◌∷◌, ◌++◌, codes}
+use Rattle.bits_value.specs.Bits.{all_bits}
 use Rattle.bits_value.specs.declared.Sign.TheVariants.{Unsigned, Signed}
 use Rattle.bits_value.specs.declared.Endian.TheVariants.{Big, Little}
 use Rattle.bits_value.specs.declared.UtfKind.TheVariants.{Utf8, Utf16}
 use Rattle.erl_syntax.specs.declared.expr.Op.TheVariants as o
 use Rattle.term_value.specs.Value.{Value, VInt, VAtom, VBits, row}
 use Rattle.erl_syntax.specs.Atoms.{fixed_atoms, a_badarg, a_ok}
+use Rattle.erl_syntax.specs.Reading.{characters_in}
 use Rattle.term_value.specs.Result.{Limit, Result, Gives, Stops, raise}
 use Rattle.term_value.specs.Segment.{Typed, Integer, Part, Character, Written, Default, Whole, Spelled}
 use Rattle.term_value.specs.Setting.{Setting}
@@ -23,10 +23,6 @@ number n = Val (int n)
 
 abbrev pub atom : ℕ → Tree
 atom a = Val (VAtom a)
-
--- a bitstring of bytes
-abbrev pub binary : List ℕ → List Bool
-binary bytes = flat_map (λ byte. big_bits 8 byte) bytes
 
 -- integer segments
 abbrev pub byte : Typed
@@ -77,7 +73,7 @@ abbrev pub a_c : ℕ
 a_c = 19
 
 abbrev pub here : Setting
-here = record { names = λ atom. slice_index_or table atom []; pid = 1 }
+here = record { names = characters_in table; pid = 1 }
 
 -- the bit expression of these segments and parts
 abbrev pub builds : List Typed → List Value → Result
@@ -85,7 +81,7 @@ builds types values = prim here (Build types) (row values)
 
 -- `<<257, (-1):4>>` is `<<1, 15:4>>`
 abbrev pub KeepsLowestBits : Type 0
-KeepsLowestBits = builds (byte ∷ sized ∷ []) (int 257 ∷ VInt (negsuc 0) ∷ int 4 ∷ []) ≡ Gives (VBits (binary (1 ∷ []) ++ true ∷ true ∷ true ∷ true ∷ []))
+KeepsLowestBits = builds (byte ∷ sized ∷ []) (int 257 ∷ VInt (negsuc 0) ∷ int 4 ∷ []) ≡ Gives (VBits (all_bits (1 ∷ []) ++ true ∷ true ∷ true ∷ true ∷ []))
 
 -- a segment's size in a pattern
 abbrev pub no_size : Trees
@@ -102,7 +98,7 @@ bound x v = record { variable = x; value = v }
 
 -- `<<16#ABC:12/little>>` is `<<188, 10:4>>`
 abbrev pub little_bits : List Bool
-little_bits = binary (188 ∷ []) ++ true ∷ false ∷ true ∷ false ∷ []
+little_bits = all_bits (188 ∷ []) ++ true ∷ false ∷ true ∷ false ∷ []
 
 abbrev pub LittleBuilds : Type 0
 LittleBuilds = builds (sized_little ∷ []) (int 0xABC ∷ int 12 ∷ []) ≡ Gives (VBits little_bits)
@@ -119,19 +115,19 @@ abbrev pub last_four : List Bool
 last_four = false ∷ false ∷ true ∷ true ∷ []
 
 abbrev pub PrefixMatches : Type 0
-PrefixMatches = matches prefixed (binary (2 ∷ 1 ∷ 2 ∷ []) ++ last_four)
-    ≡ Yes (bound 0 (int 2) ∷ bound 1 (VBits (binary (1 ∷ 2 ∷ []))) ∷ bound 2 (VBits last_four) ∷ [])
+PrefixMatches = matches prefixed (all_bits (2 ∷ 1 ∷ 2 ∷ []) ++ last_four)
+    ≡ Yes (bound 0 (int 2) ∷ bound 1 (VBits (all_bits (1 ∷ 2 ∷ []))) ∷ bound 2 (VBits last_four) ∷ [])
 
 -- the prefix is longer than what remains
 abbrev pub PrefixTooLong : Type 0
-PrefixTooLong = matches prefixed (binary (3 ∷ 1 ∷ 2 ∷ [])) ≡ No
+PrefixTooLong = matches prefixed (all_bits (3 ∷ 1 ∷ 2 ∷ [])) ≡ No
 
 -- a negative size makes a match fail, and a construction raise
 abbrev pub minus_one : Value
 minus_one = VInt (negsuc 0)
 
 abbrev pub NegativeSizeFails : Type 0
-NegativeSizeFails = matches (segment sized Anything (size (Val minus_one)) (segment rest_bits Anything no_size no_segment)) (binary (7 ∷ [])) ≡ No
+NegativeSizeFails = matches (segment sized Anything (size (Val minus_one)) (segment rest_bits Anything no_size no_segment)) (all_bits (7 ∷ [])) ≡ No
 
 abbrev pub NegativeSizeRaises : Type 0
 NegativeSizeRaises = builds (sized ∷ []) (int 1 ∷ minus_one ∷ []) ≡ Stops (raise a_badarg)
@@ -145,11 +141,11 @@ WrongKindFirst = builds (sized ∷ []) (VAtom a_ok ∷ int 134_217_729 ∷ []) �
 
 -- a bitstring that is shorter than its size
 abbrev pub ShortPart : Type 0
-ShortPart = builds (sized_binary ∷ []) (VBits (binary (1 ∷ [])) ∷ int 2 ∷ []) ≡ Stops (raise a_badarg)
+ShortPart = builds (sized_binary ∷ []) (VBits (all_bits (1 ∷ [])) ∷ int 2 ∷ []) ≡ Stops (raise a_badarg)
 
 -- 16 bytes of which the first is 255
 abbrev pub wide : List Bool
-wide = binary (255 ∷ 0 ∷ 0 ∷ 0 ∷ 0 ∷ 0 ∷ 0 ∷ 0 ∷ 0 ∷ 0 ∷ 0 ∷ 0 ∷ 0 ∷ 0 ∷ 0 ∷ 0 ∷ [])
+wide = all_bits (255 ∷ 0 ∷ 0 ∷ 0 ∷ 0 ∷ 0 ∷ 0 ∷ 0 ∷ 0 ∷ 0 ∷ 0 ∷ 0 ∷ 0 ∷ 0 ∷ 0 ∷ 0 ∷ [])
 
 abbrev pub one_of : Typed → Target → ℕ → Segments
 one_of typed target n = segment typed target (size (number n)) no_segment
@@ -166,21 +162,21 @@ WideSigned = matches (one_of sized_signed (Variable 0) 128) wide ≡ Yes (bound 
 
 -- a surrogate pair, both ways: `<<16#1F600/utf16>>` is `<<216, 61, 222, 0>>`
 abbrev pub PairBuilds : Type 0
-PairBuilds = builds (utf16 ∷ []) (int 0x1F600 ∷ []) ≡ Gives (VBits (binary (216 ∷ 61 ∷ 222 ∷ 0 ∷ [])))
+PairBuilds = builds (utf16 ∷ []) (int 0x1F600 ∷ []) ≡ Gives (VBits (all_bits (216 ∷ 61 ∷ 222 ∷ 0 ∷ [])))
 
 abbrev pub PairMatches : Type 0
-PairMatches = matches (segment utf16 (Variable 0) no_size no_segment) (binary (216 ∷ 61 ∷ 222 ∷ 0 ∷ [])) ≡ Yes (bound 0 (int 0x1F600) ∷ [])
+PairMatches = matches (segment utf16 (Variable 0) no_size no_segment) (all_bits (216 ∷ 61 ∷ 222 ∷ 0 ∷ [])) ≡ Yes (bound 0 (int 0x1F600) ∷ [])
 
 -- an overlong form is no character, a short one is
 abbrev pub OverlongFails : Type 0
-OverlongFails = matches (segment utf8 (Variable 0) no_size no_segment) (binary (0xC0 ∷ 0x80 ∷ [])) ≡ No
+OverlongFails = matches (segment utf8 (Variable 0) no_size no_segment) (all_bits (0xC0 ∷ 0x80 ∷ [])) ≡ No
 
 abbrev pub EuroMatches : Type 0
-EuroMatches = matches (segment utf8 (Variable 0) no_size no_segment) (binary (226 ∷ 130 ∷ 172 ∷ [])) ≡ Yes (bound 0 (int 0x20AC) ∷ [])
+EuroMatches = matches (segment utf8 (Variable 0) no_size no_segment) (all_bits (226 ∷ 130 ∷ 172 ∷ [])) ≡ Yes (bound 0 (int 0x20AC) ∷ [])
 
 -- `<<A, A>>` compares
 abbrev pub RepeatCompares : Type 0
-RepeatCompares = matches (segment byte (Variable 0) no_size (segment byte (Variable 0) no_size no_segment)) (binary (5 ∷ 6 ∷ [])) ≡ No
+RepeatCompares = matches (segment byte (Variable 0) no_size (segment byte (Variable 0) no_size no_segment)) (all_bits (5 ∷ 6 ∷ [])) ≡ No
 
 -- a literal of the wrong kind never matches, and its size is evaluated all the same
 abbrev pub LiteralLimit : Type 0

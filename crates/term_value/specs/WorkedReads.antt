@@ -1,6 +1,8 @@
 -- Small expressions and patterns of modules as they are read, and what they then come to.
-use Rattle.std.specs.Prelude.{◌≡◌, ℕ, negsuc, List, [], ◌∷◌, ◌++◌, codes, Some, slice_index_or}
+use Rattle.std.specs.Prelude.{◌≡◌, ℕ, negsuc, List, [], ◌∷◌, ◌++◌, codes, Some}
+use Rattle.bits_value.specs.Bits.{all_bits}
 use Rattle.erl_syntax.specs.Atoms.{fixed_atoms, a_badarg}
+use Rattle.erl_syntax.specs.Reading.{characters_in}
 use Rattle.erl_syntax.specs.declared.span.Span.{Span}
 use Rattle.erl_syntax.specs.declared.expr.Expr.TheOpen as O
 use Rattle.erl_syntax.specs.declared.expr.Prefix.TheVariants.{Minus}
@@ -11,7 +13,7 @@ use Rattle.term_value.specs.Read.{Reading, Read, literal, Piece, Branch, Qualifi
 use Rattle.term_value.specs.ReadTrees.{expr_layer, string}
 use Rattle.term_value.specs.Tree as tree
 use Rattle.term_value.specs.Local.{EndsRaised}
-use Rattle.term_value.specs.Worked.{int, number, binary}
+use Rattle.term_value.specs.Worked.{int, number}
 use Rattle.term_value.specs.WorkedRuns.{asks, shows, display}
 
 -- the atoms of a module that has the name of the built-in functions' module: the fixed ones, `erlang` and `self`
@@ -26,7 +28,7 @@ a_self = 16
 
 -- the module `erlang`, whose function `self/0` stands first
 abbrev pub in_erlang : Reading
-in_erlang = record { number_at = λ at. at.column; names = λ atom. slice_index_or names atom []; module_name = a_erlang; place = λ name arity. 0 }
+in_erlang = record { number_at = λ at. at.column; names = characters_in names; module_name = a_erlang; place = λ name arity. 0 }
 
 abbrev pub here : Span
 here = record { line = 1; column = 1 }
@@ -61,7 +63,7 @@ MacroIsOwn = calls_self (read (O.ModuleName here)) ≡ All (Call 0) end
 
 -- `<<"ab":16>>` is `<<0,97,0,98>>`
 abbrev pub StringSpreads : Type 0
-StringSpreads = shows (asks (display (read (O.Expr::Bits here (pieces (string (codes "ab")) (Some (literal (int 16))) [] ∷ []))).tree) 3) ≡ Some (VBits (binary (0 ∷ 97 ∷ 0 ∷ 98 ∷ [])))
+StringSpreads = shows (asks (display (read (O.Expr::Bits here (pieces (string (codes "ab")) (Some (literal (int 16))) [] ∷ []))).tree) 3) ≡ Some (VBits (all_bits (0 ∷ 97 ∷ 0 ∷ 98 ∷ [])))
 
 -- a segment `-1` of a pattern wants that number
 abbrev pub SignIsWanted : Type 0

@@ -1,5 +1,6 @@
 -- Small programs, and what a process asks for or a machine does.
 use Rattle.std.specs.Prelude.{codes, ◌≡◌, ℕ, true, false, List, [], ◌∷◌, ◌++◌, Option, Some, None}
+use Rattle.bits_value.specs.Bits.{all_bits}
 use Rattle.erl_syntax.specs.declared.expr.Op.TheVariants as o
 use Rattle.term_value.specs.Value.{Value, VAtom, VTuple, VList, VBits, none, more, row}
 use Rattle.erl_syntax.specs.Atoms.{a_badarg, a_badmatch, a_bad_generator, a_bad_filter, a_if_clause, a_case_clause, a_system_limit, a_reductions, a_undef, a_true, a_false, a_ok}
@@ -11,7 +12,7 @@ use Rattle.term_value.specs.Local.{Local, At, Fell, Outcome, Wants, EndsDone, En
 use Rattle.term_value.specs.Machine.{Normal, Exit as Exited, Waiting, Process, Running, Left, Machine, start_of, apply, IsLegal, IsComplete, after}
 use Rattle.term_value.specs.Orders.{order_text}
 use Rattle.term_value.specs.Reports.{report}
-use Rattle.term_value.specs.Worked.{int, number, atom, binary, byte, no_size, table, a_m, a_main, a_a, a_b, a_c, a_s}
+use Rattle.term_value.specs.Worked.{int, number, atom, byte, no_size, table, a_m, a_main, a_a, a_b, a_c, a_s}
 use Rattle.term_value.specs.declared.entry.Entry.{Entry}
 use Rattle.term_value.specs.declared.entry.Entry.TheVariants as e
 
@@ -70,7 +71,7 @@ abbrev pub ones : Segments
 ones = segment byte (Equal (int 1)) no_size (segment byte (Variable 0) no_size no_segment)
 
 abbrev pub skipping : Tree
-skipping = Gather (Items none) (from (Val (VBits (binary (1 ∷ 2 ∷ 3 ∷ 4 ∷ 1 ∷ 6 ∷ [])))) (InBits ones) (give (Var 0))) bottom
+skipping = Gather (Items none) (from (Val (VBits (all_bits (1 ∷ 2 ∷ 3 ∷ 4 ∷ 1 ∷ 6 ∷ [])))) (InBits ones) (give (Var 0))) bottom
 
 abbrev pub GeneratorSkips : Type 0
 GeneratorSkips = shows (asks (display skipping) 4) ≡ Some (VList (row (int 2 ∷ int 6 ∷ [])))
@@ -84,11 +85,11 @@ LastRowIsFree = asks skipping 3 ≡ EndsDone
 
 -- `<< <<(X bxor 1)>> || <<X>> <= <<1, 2, 3:4>> >>`: the last four bits are dropped
 abbrev pub dropping : Tree
-dropping = Gather (Bits []) (from (Val (VBits (binary (1 ∷ 2 ∷ []) ++ false ∷ false ∷ true ∷ true ∷ []))) (InBits (segment byte (Variable 0) no_size no_segment))
+dropping = Gather (Bits []) (from (Val (VBits (all_bits (1 ∷ 2 ∷ []) ++ false ∷ false ∷ true ∷ true ∷ []))) (InBits (segment byte (Variable 0) no_size no_segment))
     (give (All (Table (Build (byte ∷ []))) (one (operation o.Bxor (Var 0) (number 1)))))) bottom
 
 abbrev pub GeneratorDrops : Type 0
-GeneratorDrops = shows (asks (display dropping) 10) ≡ Some (VBits (binary (0 ∷ 3 ∷ [])))
+GeneratorDrops = shows (asks (display dropping) 10) ≡ Some (VBits (all_bits (0 ∷ 3 ∷ [])))
 
 -- `[{X, Y} || X <- [1, 2], {Y, true} <- [{3, true}, 4]]`
 abbrev pub pairs : Tree
