@@ -10,7 +10,7 @@ use Rattle.std.proofs.lemmas.List.Elements.{All-head, Contains-append_left}
 use Rattle.erl_syntax.specs.Bindings.{Bound, names, targets_of, segment_targets}
 use Rattle.erl_syntax.specs.Scopes.{Scope, AnExpr, APattern, ABody, Stands, head_body, item_value, item_pattern, part, Parts, Found, IsKnown, nothing_known, with_known, behind, to_match, past_patterns, past_items, item_targets}
 use Rattle.erl_syntax.specs.Checking.{IsRead, Place, IsPlace, RisingBy, IsNumber, AreNumbersIn, AreNumbersOf}
-use Rattle.erl_syntax.specs.Reading.{number_in, StandOnce}
+use Rattle.erl_syntax.specs.Reading.{StandOnce}
 use Rattle.erl_syntax.specs.declared.span.Span.{Span}
 use Rattle.erl_syntax.specs.declared.expr.Expr.{Expr}
 use Rattle.erl_syntax.specs.declared.expr.Expr.TheVariants as x
@@ -19,7 +19,7 @@ use Rattle.erl_syntax.specs.declared.clause.Item as syntax_item
 use Rattle.erl_syntax.specs.declared.module.Module.{Module}
 use Rattle.erl_syntax.specs.declared.module.Function as syntax_function
 use Rattle.erl_syntax.specs.declared.module.Clause as syntax_clause
-use Rattle.term_value.specs.Tree.{Tree, Clauses, clause, no_clause, no_pattern, never, or, end, Patterns, Guard, Function}
+use Rattle.term_value.specs.Tree.{Clauses, clause, no_clause, no_pattern, never, or, end, Function}
 use Rattle.term_value.specs.Tree as tree
 use Rattle.term_value.specs.Read.{Reading, body, patterns}
 use Rattle.term_value.specs.ReadTrees.{line_of, pattern_of, guard_tree, function_clauses, function_of, is_exported, name_of, reading, module_of}

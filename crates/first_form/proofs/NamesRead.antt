@@ -1,5 +1,5 @@
 -- An atom's number in a table in which each stands once.
-use Rattle.std.proofs.Common.{◌≡◌, ℕ, ◌+◌, ◌<◌, List, [], ◌∷◌, ◌++◌, length, sym, ap, ◌∙◌, arith, length-append}
+use Rattle.std.proofs.Common.{◌≡◌, ℕ, ◌+◌, ◌<◌, List, ◌∷◌, length, sym, ap, ◌∙◌, arith, length-append}
 use Rattle.erl_syntax.specs.Checking.{Spelled}
 use Rattle.erl_syntax.specs.Reading.{number_in, StandOnce}
 use Rattle.erl_syntax.specs.declared.module.Module.{Module}

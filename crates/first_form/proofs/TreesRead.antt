@@ -6,7 +6,7 @@ use Rattle.erl_syntax.specs.declared.span.Span.{Span}
 use Rattle.erl_syntax.specs.declared.expr.Expr.{Expr}
 use Rattle.erl_syntax.specs.declared.expr.Expr.TheVariants as x
 use Rattle.erl_syntax.specs.declared.expr.Expr.TheOpen as O
-use Rattle.erl_syntax.specs.declared.expr.Expr.TheFolds.{fold-Expr, fold-Segment, fold-roll-Expr, fold-roll-Pattern, fold_out-Segment, fold_out-Item, fold_out-Guard}
+use Rattle.erl_syntax.specs.declared.expr.Expr.TheFolds.{fold-Segment, fold-roll-Expr, fold-roll-Pattern, fold_out-Segment, fold_out-Item, fold_out-Guard}
 use Rattle.erl_syntax.specs.declared.pattern.Pattern as syntax_pattern
 use Rattle.erl_syntax.specs.declared.pattern.Pattern.TheVariants as p
 use Rattle.erl_syntax.specs.declared.segment.Segment.{Segment}

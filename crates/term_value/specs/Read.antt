@@ -12,7 +12,7 @@ use Rattle.erl_syntax.specs.Atoms.{a_ok}
 use Rattle.term_value.specs.Segment.{Typed}
 use Rattle.term_value.specs.Typing.{typed_of}
 use Rattle.term_value.specs.Calls.{called}
-use Rattle.term_value.specs.Tree.{Prim, MakeList, MakeListOn, Build, Operate, Prefixed, Table, Send, Target, Anything, Equal, Tree, Val, All, First, Trees, end, and, Then, Last, AndAlso, OrElse, Clauses, no_clause, clause, Guard, never, or, Quals, give, from, test, Generator, Pattern, PList, PListOn, Patterns, no_pattern, pattern_and, Segments, no_segment, segment}
+use Rattle.term_value.specs.Tree.{MakeList, MakeListOn, Build, Operate, Prefixed, Table, Send, Target, Anything, Equal, Tree, Val, All, First, Trees, end, and, Then, Last, AndAlso, OrElse, Clauses, no_clause, clause, Guard, never, or, Quals, give, from, test, Generator, Pattern, PList, PListOn, Patterns, no_pattern, pattern_and, Segments, no_segment, segment}
 
 -- what a reader looks up
 pub record Reading : Type 0 where

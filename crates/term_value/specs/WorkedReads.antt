@@ -8,7 +8,7 @@ use Rattle.erl_syntax.specs.declared.expr.Expr.TheOpen as O
 use Rattle.erl_syntax.specs.declared.expr.Prefix.TheVariants.{Minus}
 use Rattle.erl_syntax.specs.declared.built_in.BuiltIn.TheVariants.{SelfPid}
 use Rattle.term_value.specs.Value.{VInt, VAtom, VList, VBits, row}
-use Rattle.term_value.specs.Tree.{Native, Table, Call, Equal, Tree, All, First, Trees, end, Last, PVar, Pattern, no_pattern, pattern_and}
+use Rattle.term_value.specs.Tree.{Native, Table, Call, Equal, Tree, All, First, end, Last, PVar, Pattern, no_pattern, pattern_and}
 use Rattle.term_value.specs.Read.{Reading, Read, literal, Piece, Branch, Qualifier, Line, pieces, body}
 use Rattle.term_value.specs.ReadTrees.{expr_layer, string}
 use Rattle.term_value.specs.Tree as tree
