@@ -107,9 +107,11 @@ end_text code Exhausted spelled = let d : decimal 1 ≡ 49 ∷ [] = decimal_digi
 
 lines : (code : Module) (r : ℕ) (shown : List ℤ) (how : Ending) → SpellsReductions code.atoms → report_of shown how ≡ reports.machine_text (whole_at code r (Left (whole_end how)) shown)
 lines code r shown how spelled =
-    let each : flat_map (λ v. text (name_in code) v ++ codes "\n") (map (λ n. VInt n) shown) ≡ flat_map (λ n. signed_decimal n ++ codes "\n") shown =
-    flat_map-map (λ v. text (name_in code) v ++ codes "\n") (λ n. VInt n) shown in
-    ap (λ l. l ++ ending_text how) (sym each) ∙ ap (λ l. flat_map (λ v. text (name_in code) v ++ codes "\n") (map (λ n. VInt n) shown) ++ l) (end_text code how spelled)
+    let values : List Value = map (λ n. VInt n) shown in
+    let texts : List (List ℕ) = map (text (name_in code)) values in
+    let each : flat_map reports.shown_line texts ≡ flat_map (λ n. signed_decimal n ++ codes "\n") shown =
+    flat_map-map reports.shown_line (text (name_in code)) values ∙ flat_map-map (λ v. reports.shown_line (text (name_in code) v)) (λ n. VInt n) shown in
+    ap (λ l. l ++ ending_text how) (sym each) ∙ ap (λ l. flat_map reports.shown_line texts ++ l) (end_text code how spelled)
 
 -- the whole run
 

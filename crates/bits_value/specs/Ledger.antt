@@ -1,4 +1,4 @@
--- The ledger of moved bits.
+-- The ledger of moved bits (this project's own).
 use Rattle.std.specs.Prelude.{ℕ, ◌+◌, ◌-◌, ◌^◌, min}
 
 -- a counter that stood at `old`, after so many more bits: it stands still at the end of its type

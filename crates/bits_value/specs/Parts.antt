@@ -1,4 +1,4 @@
--- Numbers by their lowest bits and those above them, as the code reads them.
+-- Numbers by their lowest bits and those above them, as the code reads them (this project's own).
 use Rattle.std.specs.Prelude.{ℕ, ◌-◌, ◌*◌, ◌^◌, ◌==◌, Bool, true, false, cond, ℤ, pos, negsuc, Option, Some, None, nat_lt}
 use Rattle.bits_value.specs.declared.Sign.{Sign}
 use Rattle.bits_value.specs.declared.Sign.TheVariants.{Unsigned, Signed}

@@ -26,7 +26,7 @@ unit_bytes Little u = (u % 0x100) ∷ (u / 0x100) ∷ []
 abbrev pub utf16_bytes : Endian → ℕ → List ℕ
 utf16_bytes endian c = cond (nat_lt c 0x1_0000) (unit_bytes endian c) (unit_bytes endian (0xD800 + (c - 0x1_0000) / 0x400) ++ unit_bytes endian (0xDC00 + (c - 0x1_0000) % 0x400))
 
--- a number of four bytes
+-- a number of four bytes (the Unicode Standard, section 3.9: UTF-32)
 abbrev pub utf32_bytes : Endian → ℕ → List ℕ
 utf32_bytes Big c = (c / 0x100_0000) ∷ (c / 0x1_0000 % 0x100) ∷ (c / 0x100 % 0x100) ∷ (c % 0x100) ∷ []
 utf32_bytes Little c = (c % 0x100) ∷ (c / 0x100 % 0x100) ∷ (c / 0x1_0000 % 0x100) ∷ (c / 0x100_0000) ∷ []

@@ -1,4 +1,5 @@
--- The atoms that the rules name. They stand at the head of each module's table of atoms, in this order.
+-- The atoms that the rules name (Erlang Reference Manual, "Errors and Error Handling"; the choice of them is this project's own).
+-- They stand at the head of each module's table of atoms, in this order.
 use Rattle.std.specs.Prelude.{ℕ, List, [], ◌∷◌, codes}
 
 abbrev pub fixed_atoms : List (List ℕ)

@@ -24,7 +24,7 @@ abbrev pub number_in : List (List ℕ) → List ℕ → ℕ
 number_in [] chars = 0
 number_in (atom ∷ atoms) chars = if bytes_eq atom chars then 0 else 1 + number_in atoms chars
 
--- the characters of the atom with this number
+-- the UTF-8 bytes of the atom with this number
 abbrev pub characters_in : List (List ℕ) → ℕ → List ℕ
 characters_in atoms number = slice_index_or atoms number []
 
@@ -59,7 +59,7 @@ number_of table k.Character bs = character_number bs
 number_of table k.Atom bs = number_in table (atom_text bs)
 number_of table _ bs = 0
 
--- the characters that it stands for
+-- the UTF-8 bytes of an atom or of a variable's name, or the numbers of a string's characters
 abbrev pub characters_of : TokenKind → List ℕ → List ℕ
 characters_of k.Atom bs = atom_text bs
 characters_of k.Variable bs = bs

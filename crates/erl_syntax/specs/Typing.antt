@@ -1,5 +1,5 @@
 -- The types of segments (Erlang Reference Manual, "Bit Syntax Expressions", type specifier list).
-use Rattle.std.specs.Prelude.{◌≡◌, ◌≢◌, ℕ, pos, ◌<ℤ◌, Bool, true, false, List, [], ◌∷◌, Option, Some, None, Result, Ok, Err, ◌⊎◌}
+use Rattle.std.specs.Prelude.{◌≡◌, ◌≢◌, ℕ, pos, ◌<ℤ◌, Bool, true, false, List, [], ◌∷◌, Option, Some, None, Result, Ok, Err, ◌⊎◌, is_some}
 use Rattle.std.specs.List.{find, Contains}
 use Rattle.std.specs.Option.{IsSome, IsNone}
 use Rattle.bits_value.specs.declared.Sign.{Sign}
@@ -94,12 +94,8 @@ size_by true kind = z.Given
 size_by false k.Int = z.Default 8
 size_by false kind = z.Whole
 
-abbrev pub is_sized : Option Expr → Bool
-is_sized None = false
-is_sized (Some e) = true
-
 abbrev pub size_of : Kind → Option Expr → SizeUse
-size_of kind e = size_by (is_sized e) kind
+size_of kind e = size_by (is_some e) kind
 
 abbrev pub usual_unit : Kind → ℕ
 usual_unit k.Binary = 8
@@ -127,7 +123,7 @@ type_by sized words = type_as sized words (type_of (word g.Type words))
 
 -- the type of a segment that has no fault
 abbrev pub table : Segment → Typed
-table sg = type_by (is_sized sg.size) sg.specs
+table sg = type_by (is_some sg.size) sg.specs
 
 -- two words of a kind that differ
 abbrev pub Differ : List Spec → Type 0

@@ -1,5 +1,5 @@
--- Taking a segment of a pattern off the front of bits (Erlang Reference Manual, "Bit Syntax Expressions"; the limit is this
--- project's own).
+-- Taking a segment of a pattern off the front of bits (Erlang Reference Manual, "Bit Syntax Expressions"; the limit, and that
+-- a bad size fails, are this project's own).
 use Rattle.std.specs.Prelude.{ℕ, ℤ, pos, ◌*◌, ◌%◌, Bool, true, false, List, [], ◌∷◌, ◌++◌, length, take, drop, Option, Some, None, cond, is_some, nat_eq, nat_le}
 use Rattle.bits_value.specs.Number.{number, bounded}
 use Rattle.bits_value.specs.declared.Endian.{Endian}

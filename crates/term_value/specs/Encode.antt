@@ -30,6 +30,7 @@ written_extent unit (Some (VInt (pos n))) = Exactly (n * unit)
 written_extent unit (Some _) = BadSize
 written_extent unit None = BadSize
 
+-- a character's is never looked at: it has the bits of its spelling
 abbrev pub extent : Size → Option Value → Extent
 extent (Written unit) size = written_extent unit size
 extent (Default bits) size = Exactly bits

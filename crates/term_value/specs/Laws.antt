@@ -1,13 +1,12 @@
--- Laws of encoding and decoding, of local states, of orders, of reports and of the order of terms.
-use Rattle.std.specs.Prelude.{◌≡◌, ℕ, ℤ, pos, ◌+◌, ◌*◌, ◌<◌, ◌≤◌, Bool, length, List, [], ◌∷◌, ◌++◌, codes, All, IsTrue, Some, None}
-use Rattle.std.specs.List.{flat_map}
+-- Laws of encoding and decoding, of local states, of orders, of reports and of the order of terms (this project's own).
+use Rattle.std.specs.Prelude.{◌≡◌, ℕ, ℤ, pos, ◌+◌, ◌*◌, ◌<◌, ◌≤◌, Bool, length, List, [], ◌∷◌, ◌++◌, codes, All, IsTrue, Some, None, encode_utf8_all}
 use Rattle.std.specs.Ordering.{nat_cmp}
 use Rattle.std.specs.Cmp.{IsTotalOrder}
 use Rattle.std.specs.Cmp.Lexicographic.{slice_cmp}
 use Rattle.std.specs.declared.cmp.Ordering.TheVariants.{Equal}
 use Rattle.bits_value.specs.Number.{spell, InBits, bounded}
 use Rattle.bits_value.specs.declared.Sign.{Sign}
-use Rattle.bits_value.specs.Utf.{is_character, utf8_bytes}
+use Rattle.bits_value.specs.Utf.{is_character}
 use Rattle.bits_value.specs.declared.UtfKind.{UtfKind}
 use Rattle.bits_value.specs.declared.Endian.{Endian}
 use Rattle.term_value.specs.Value.{Value, VInt, VAtom, VPid, VTuple, VList, VBits, Values, none, more}
@@ -103,7 +102,7 @@ OneOrder = (text : List ℕ) (entries others : List Entry) → Spells text entri
 abbrev pub EntryIsLine : Type 0
 EntryIsLine = (entry : Entry) → IsInRange entry → (chars : List ℕ) × HasNoLineFeed chars × (entry_text entry ≡ chars ++ codes "\n")
 
--- the order of names by their bytes in UTF-8 is that by their characters' numbers
+-- the order of names by their bytes in UTF-8, as a module's atoms have them, is that by their characters' numbers
 abbrev pub NamesByCharacters : Type 0
 NamesByCharacters = (cs ds : List ℕ) → All (λ c. IsTrue (is_character c)) cs → All (λ c. IsTrue (is_character c)) ds
-    → slice_cmp nat_cmp (flat_map utf8_bytes cs) (flat_map utf8_bytes ds) ≡ slice_cmp nat_cmp cs ds
+    → slice_cmp nat_cmp (encode_utf8_all cs) (encode_utf8_all ds) ≡ slice_cmp nat_cmp cs ds

@@ -18,14 +18,15 @@ use Rattle.term_value.specs.Tree.{MakeList, MakeListOn, Build, Operate, Prefixed
 pub record Reading : Type 0 where
   -- the number of the variable that stands at a place of the text
   pub number_at : Span → ℕ
-  -- the characters of an atom in UTF-8
+  -- the UTF-8 bytes of an atom's name
   pub names : ℕ → List ℕ
   -- the module's own name
   pub module_name : ℕ
   -- the place of the function with this name and number of arguments
   pub place : ℕ → ℕ → ℕ
 
--- an expression, and what it wants as the value of a pattern's segment; a string keeps its characters
+-- An expression, and what it wants as the value of a pattern's segment, by which an atom before the colon of a call is known too.
+-- A string keeps its characters.
 pub record Read : Type 0 where
   pub tree : Tree
   pub target : Target
@@ -163,7 +164,7 @@ abbrev pub pattern_list : List Pattern → List Pattern → Pattern
 pattern_list items [] = PList (patterns items)
 pattern_list items (tail ∷ tails) = PListOn (patterns items) tail
 
--- the characters of an atom that is written before the colon of a call; `?MODULE` is the module itself, whatever its name is
+-- the UTF-8 bytes of an atom that is written before the colon of a call; `?MODULE` is the module itself, whatever its name is
 abbrev pub atom_name : Reading → Target → List ℕ
 atom_name r (Equal (VAtom a)) = r.names a
 atom_name r _ = []

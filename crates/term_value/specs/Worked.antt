@@ -1,12 +1,13 @@
--- Small bit expressions and patterns, and what they give.
-use Rattle.std.specs.Prelude.{◌≡◌, ℕ, pos, negsuc, Bool, true, false, List, [], ◌∷◌, ◌++◌, codes}
+-- Small bit expressions and patterns, and what they give (worked by hand from the Erlang Reference Manual, "Bit Syntax
+-- Expressions").
+use Rattle.std.specs.Prelude.{◌≡◌, ℕ, pos, negsuc, Bool, true, false, List, [], ◌∷◌, ◌++◌, map, codes}
 use Rattle.bits_value.specs.Bits.{all_bits}
 use Rattle.bits_value.specs.declared.Sign.TheVariants.{Unsigned, Signed}
 use Rattle.bits_value.specs.declared.Endian.TheVariants.{Big, Little}
 use Rattle.bits_value.specs.declared.UtfKind.TheVariants.{Utf8, Utf16}
 use Rattle.erl_syntax.specs.declared.expr.Op.TheVariants as o
 use Rattle.term_value.specs.Value.{Value, VInt, VAtom, VBits, row}
-use Rattle.erl_syntax.specs.Atoms.{fixed_atoms, a_badarg, a_ok}
+use Rattle.erl_syntax.specs.Atoms.{fixed_atoms, a_badarg, a_badarith, a_badmatch, a_case_clause, a_if_clause, a_function_clause, a_bad_generator, a_bad_filter, a_undef, a_system_limit, a_reductions, a_true, a_false, a_ok, a_normal}
 use Rattle.erl_syntax.specs.Reading.{characters_in}
 use Rattle.term_value.specs.Result.{Limit, Result, Gives, Stops, raise}
 use Rattle.term_value.specs.Segment.{Typed, Integer, Part, Character, Written, Default, Whole, Spelled}
@@ -74,6 +75,12 @@ a_c = 19
 
 abbrev pub here : Setting
 here = record { names = characters_in table; pid = 1 }
+
+-- the numbers of the fixed atoms are those of their names
+abbrev pub FixedAtomsStand : Type 0
+FixedAtomsStand = map (characters_in fixed_atoms) (a_badarg ∷ a_badarith ∷ a_badmatch ∷ a_case_clause ∷ a_if_clause ∷ a_function_clause ∷ a_bad_generator ∷ a_bad_filter ∷ a_undef ∷ a_system_limit ∷ a_reductions ∷ a_true ∷ a_false ∷ a_ok ∷ a_normal ∷ [])
+    ≡ codes "badarg" ∷ codes "badarith" ∷ codes "badmatch" ∷ codes "case_clause" ∷ codes "if_clause" ∷ codes "function_clause" ∷ codes "bad_generator" ∷ codes "bad_filter" ∷ codes "undef"
+    ∷ codes "system_limit" ∷ codes "reductions" ∷ codes "true" ∷ codes "false" ∷ codes "ok" ∷ codes "normal" ∷ []
 
 -- the bit expression of these segments and parts
 abbrev pub builds : List Typed → List Value → Result
