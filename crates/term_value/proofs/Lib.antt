@@ -12,6 +12,7 @@ pub mod Shrinks
 pub mod Finishes
 pub mod Within
 pub mod Compared
+pub mod Contracted
 pub mod Joined
 pub mod Outcomes
 pub mod NameOrder

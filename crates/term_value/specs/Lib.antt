@@ -6,6 +6,7 @@ pub mod CallLaws
 pub mod Characters
 pub mod Decode
 pub mod Encode
+pub mod GuardLaws
 pub mod Guards
 pub mod Joining
 pub mod Laws

@@ -1,6 +1,7 @@
-//! Laws of encoding and decoding, of calls, of local states, of orders, of reports and of the order of terms, each the
-//! contract of a function.
+//! Laws of encoding and decoding, of calls, of guards, of local states, of orders, of reports and of the order of terms, each
+//! the contract of a function.
 ghost use Rattle.term_value.specs.CallLaws.{CallsAreRead};
+ghost use Rattle.term_value.specs.GuardLaws.{GuardsContract};
 ghost use Rattle.term_value.specs.Laws.{CharacterReadsBack, CompleteIsLast, EachAsks, EntryIsLine, EqualIsSame, IntegerReadsBack, LegalIsShort, NamesByCharacters, OneOrder, OrderIsTotal, OutcomeReports};
 
 /// An integer within its bits and the bound is read back from its encoding, whatever bits follow.
@@ -61,4 +62,9 @@ pub fn entry_is_line()
 /// A call that is checked as a call of a built-in function or of a function of its module is read as a call of just that.
 pub fn calls_are_read()
     ensures { CallsAreRead }
+{}
+
+/// A guard expression has the result that its contractions come to, and they cost nothing.
+pub fn guards_contract()
+    ensures { GuardsContract }
 {}
