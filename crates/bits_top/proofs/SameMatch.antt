@@ -13,7 +13,9 @@ use Rattle.bits_value.proofs.Spellings.{length-spell}
 use Rattle.term_value.specs.Value.{Value, Values, none, more, VInt, VBits}
 use Rattle.term_value.specs.Bounds.{bit_bound, value_or_limit}
 use Rattle.term_value.specs.Setting.{Setting}
-use Rattle.term_value.specs.Segment.{Typed, Integer, Written}
+use Rattle.erl_syntax.specs.Typing.{type_by}
+use Rattle.erl_syntax.specs.declared.typing.Typed.{Typed}
+use Rattle.erl_syntax.specs.declared.typing.Kind.TheVariants.{Int}
 use Rattle.term_value.specs.Tree.{Bound, Trees, end, and, Val, Variable, Segments, segment, Build}
 use Rattle.term_value.specs.PutIn.{value_in, in_segments, puts_in}
 use Rattle.term_value.specs.Read.{piece, parts, types, literal, segments, before_size}
@@ -155,14 +157,14 @@ apart_next : (number : ℕ → ℕ) (names : List ℕ) (name : ℕ) (others : Li
 apart_next number names name others h = subst (λ all. Apart number all) (sym (append_assoc names (name ∷ []) others)) h
 
 cut : (s : Setting) (x n m : ℕ) (acc : List Bound) (bits : List Bool) → m ≡ n → n ≤ 64 → n ≤ length bits →
-    bits_taken s (Integer Unsigned Big) (Variable x) (nat_le m (length bits)) m acc bits ≡ Cut (bound_to x (VInt (pos (natural (take n bits)))) acc) (drop n bits)
+    bits_taken s Int Unsigned Big (Variable x) (nat_le m (length bits)) m acc bits ≡ Cut (bound_to x (VInt (pos (natural (take n bits)))) acc) (drop n bits)
 cut s x n m acc bits e small room =
     let t : nat_le n (length bits) ≡ true = le_true _ _ room in
     let l : length (take n bits) ≤ 64 = omega (arith, small, length-take-le n bits room) in
     rw (e, t, narrow_some (take n bits) l) refl
 
 one_taken : (s : Setting) (x n : ℕ) (rest : Segments) (acc : List Bound) (bits : List Bool) → value_in acc x ≡ None → n ≤ 64 → n ≤ length bits →
-    all_taken s (segment (record { kind = Integer Unsigned Big; size = Written 1 }) (Variable x) (and (Val (VInt (pos n))) end) rest) acc bits
+    all_taken s (segment (type_by true []) (Variable x) (and (Val (VInt (pos n))) end) rest) acc bits
     ≡ all_taken s rest (bound_to x (VInt (pos (natural (take n bits)))) acc) (drop n bits)
 one_taken s x n rest acc bits free small room =
     rw free (ap (λ t. then_take t (all_taken s rest)) (cut s x n (n * 1) acc bits (omega arith) small room))
@@ -192,4 +194,4 @@ fields_put bs number names (field ∷ fields) within new apart =
     let h = new_free number names bs field.variable (map (λ f. f.variable) fields) within new.0 apart in
     let later = fields_put bs number (names ++ field.variable ∷ []) fields (within_wider number names bs field.variable within) new.1
     (apart_next number names field.variable (map (λ f. f.variable) fields) apart) in
-    rw h (ap (segment (record { kind = Integer Unsigned Big; size = Written 1 }) (Variable (number field.variable)) (and (Val (VInt (pos field.bits))) end)) later)
+    rw h (ap (segment (type_by true []) (Variable (number field.variable)) (and (Val (VInt (pos field.bits))) end)) later)

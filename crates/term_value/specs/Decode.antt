@@ -2,13 +2,18 @@
 -- a bad size fails, are this project's own).
 use Rattle.std.specs.Prelude.{ℕ, ℤ, pos, ◌*◌, ◌%◌, Bool, true, false, List, [], ◌∷◌, ◌++◌, length, take, drop, Option, Some, None, cond, is_some, nat_eq, nat_le}
 use Rattle.bits_value.specs.Number.{number, bounded}
+use Rattle.bits_value.specs.declared.Sign.{Sign}
 use Rattle.bits_value.specs.declared.Endian.{Endian}
 use Rattle.bits_value.specs.declared.UtfKind.{UtfKind}
 use Rattle.term_value.specs.Value.{Value, VInt, VBits}
 use Rattle.term_value.specs.Order.{same}
 use Rattle.term_value.specs.Result.{Raise, Limit, Result, Gives, Stops}
 use Rattle.term_value.specs.Setting.{Setting}
-use Rattle.term_value.specs.Segment.{Typed, Kind, Integer, Part, Character, Size, Written, Default, Whole, Spelled}
+use Rattle.erl_syntax.specs.declared.typing.Typed.{Typed}
+use Rattle.erl_syntax.specs.declared.typing.Kind.{Kind}
+use Rattle.erl_syntax.specs.declared.typing.Kind.TheVariants as k
+use Rattle.erl_syntax.specs.declared.typing.SizeUse.{SizeUse}
+use Rattle.erl_syntax.specs.declared.typing.SizeUse.TheVariants as z
 use Rattle.term_value.specs.Characters.{spelling, character_of}
 use Rattle.term_value.specs.Guards.{result_of}
 use Rattle.term_value.specs.PutIn.{in_target, put_in}
@@ -36,11 +41,11 @@ abbrev pub sized_reach : Setting → ℕ → List Bound → Trees → Reach
 sized_reach s unit bs end = BadSize
 sized_reach s unit bs (and size ts) = written_reach unit (result_of s (put_in bs size))
 
-abbrev pub reach : Setting → Size → List Bound → Trees → Reach
-reach s (Written unit) bs size = sized_reach s unit bs size
-reach s (Default bits) bs size = Bits bits
-reach s (Whole unit) bs size = Rest unit
-reach s Spelled bs size = Front
+abbrev pub reach : Setting → SizeUse → ℕ → List Bound → Trees → Reach
+reach s z.Given unit bs size = sized_reach s unit bs size
+reach s (z.Default n) unit bs size = Bits (n * unit)
+reach s z.Whole unit bs size = Rest unit
+reach s z.NoSize unit bs size = Front
 
 -- what is taken off: the bindings with those of this segment behind, and the rest
 pub data Taken : Type 0 where
@@ -80,28 +85,29 @@ character_taken s utf endian target None bs bits = NoCut
 character_taken s utf endian target (Some c) bs bits = number_taken s target (pos c) bs (drop (length (spelling utf endian c)) bits)
 
 -- so many bits, of which there are enough
-abbrev pub bits_taken : Setting → Kind → Target → Bool → ℕ → List Bound → List Bool → Taken
-bits_taken s (Integer sign endian) target true n bs bits = number_taken s target (number (take n bits) sign endian) bs (drop n bits)
-bits_taken s Part target true n bs bits = part_taken s target (take n bits) bs (drop n bits)
-bits_taken s _ target _ n bs bits = NoCut
+abbrev pub bits_taken : Setting → Kind → Sign → Endian → Target → Bool → ℕ → List Bound → List Bool → Taken
+bits_taken s k.Int sign endian target true n bs bits = number_taken s target (number (take n bits) sign endian) bs (drop n bits)
+bits_taken s k.Binary sign endian target true n bs bits = part_taken s target (take n bits) bs (drop n bits)
+bits_taken s k.Bitstring sign endian target true n bs bits = part_taken s target (take n bits) bs (drop n bits)
+bits_taken s _ sign endian target _ n bs bits = NoCut
 
 abbrev pub rest_taken : Setting → Target → Bool → List Bound → List Bool → Taken
 rest_taken s target true bs bits = part_taken s target bits bs []
 rest_taken s target false bs bits = NoCut
 
-abbrev pub front_taken : Setting → Kind → Target → List Bound → List Bool → Taken
-front_taken s (Character utf endian) target bs bits = character_taken s utf endian target (character_of utf endian bits) bs bits
-front_taken s _ target bs bits = NoCut
+abbrev pub front_taken : Setting → Kind → Endian → Target → List Bound → List Bool → Taken
+front_taken s (k.Utf utf) endian target bs bits = character_taken s utf endian target (character_of utf endian bits) bs bits
+front_taken s _ endian target bs bits = NoCut
 
 -- A segment taken off the front: it doesn't match where it is longer than the bits, where a wanted value differs, where the
 -- rest is no multiple of the unit, or where no character stands in front.
-abbrev pub taken_by : Setting → Kind → Target → Reach → List Bound → List Bool → Taken
-taken_by s kind target (Bits n) bs bits = bits_taken s kind target (nat_le n (length bits)) n bs bits
-taken_by s kind target (Rest unit) bs bits = rest_taken s target (nat_eq (length bits % unit) 0) bs bits
-taken_by s kind target Front bs bits = front_taken s kind target bs bits
-taken_by s kind target BadSize bs bits = NoCut
-taken_by s kind target LimitSize bs bits = CutLimit
+abbrev pub taken_by : Setting → Typed → Target → Reach → List Bound → List Bool → Taken
+taken_by s typed target (Bits n) bs bits = bits_taken s typed.kind typed.sign typed.endian target (nat_le n (length bits)) n bs bits
+taken_by s typed target (Rest unit) bs bits = rest_taken s target (nat_eq (length bits % unit) 0) bs bits
+taken_by s typed target Front bs bits = front_taken s typed.kind typed.endian target bs bits
+taken_by s typed target BadSize bs bits = NoCut
+taken_by s typed target LimitSize bs bits = CutLimit
 
 -- a variable that is bound already is compared
 abbrev pub taken : Setting → Typed → Target → Trees → List Bound → List Bool → Taken
-taken s typed target size bs bits = taken_by s typed.kind (in_target bs target) (reach s typed.size bs size) bs bits
+taken s typed target size bs bits = taken_by s typed (in_target bs target) (reach s typed.size typed.unit bs size) bs bits

@@ -8,7 +8,11 @@ use Rattle.bits_value.specs.declared.UtfKind.{UtfKind}
 use Rattle.term_value.specs.Value.{Value, VInt, VBits, Values, none, more}
 use Rattle.erl_syntax.specs.Atoms.{a_badarg}
 use Rattle.term_value.specs.Result.{Stop, Limit, Result, Gives, Stops, raise}
-use Rattle.term_value.specs.Segment.{Typed, Kind, Integer, Part, Character, Size, Written, Default, Whole, Spelled}
+use Rattle.erl_syntax.specs.declared.typing.Typed.{Typed}
+use Rattle.erl_syntax.specs.declared.typing.Kind.{Kind}
+use Rattle.erl_syntax.specs.declared.typing.Kind.TheVariants as k
+use Rattle.erl_syntax.specs.declared.typing.SizeUse.{SizeUse}
+use Rattle.erl_syntax.specs.declared.typing.SizeUse.TheVariants as z
 use Rattle.term_value.specs.Bounds.{bit_bound}
 use Rattle.term_value.specs.Characters.{spelling}
 
@@ -30,12 +34,12 @@ written_extent unit (Some (VInt (pos n))) = Exactly (n * unit)
 written_extent unit (Some _) = BadSize
 written_extent unit None = BadSize
 
--- a character's is never looked at: it has the bits of its spelling
-abbrev pub extent : Size → Option Value → Extent
-extent (Written unit) size = written_extent unit size
-extent (Default bits) size = Exactly bits
-extent (Whole unit) size = InUnits unit
-extent Spelled size = InUnits 1
+-- by the unit; a character's is never looked at, since it has the bits of its spelling
+abbrev pub extent : SizeUse → ℕ → Option Value → Extent
+extent z.Given unit size = written_extent unit size
+extent (z.Default n) unit size = Exactly (n * unit)
+extent z.Whole unit size = InUnits unit
+extent z.NoSize unit size = InUnits unit
 
 abbrev pub badarg : Encoded
 badarg = Fails (raise a_badarg)
@@ -68,16 +72,17 @@ abbrev pub encoded_character : UtfKind → Endian → ℤ → Encoded
 encoded_character utf endian (pos c) = where_fits (is_character c) (spelling utf endian c)
 encoded_character utf endian (negsuc c) = badarg
 
-abbrev pub encoded_as : Kind → Value → Extent → Encoded
-encoded_as (Integer sign endian) (VInt n) e = encoded_integer e n endian
-encoded_as Part (VBits bits) e = encoded_part e bits
-encoded_as (Character utf endian) (VInt n) e = encoded_character utf endian n
-encoded_as _ _ e = badarg
+abbrev pub encoded_as : Kind → Endian → Value → Extent → Encoded
+encoded_as k.Int endian (VInt n) e = encoded_integer e n endian
+encoded_as k.Binary endian (VBits bits) e = encoded_part e bits
+encoded_as k.Bitstring endian (VBits bits) e = encoded_part e bits
+encoded_as (k.Utf utf) endian (VInt n) e = encoded_character utf endian n
+encoded_as _ endian _ e = badarg
 
 -- The bits of a segment. A value of the wrong kind comes first, then a bad size, a segment past the bound, and a bitstring
 -- that is too short or no multiple of the unit.
 abbrev pub encoded : Typed → Value → Option Value → Encoded
-encoded typed v size = encoded_as typed.kind v (extent typed.size size)
+encoded typed v size = encoded_as typed.kind typed.endian v (extent typed.size typed.unit size)
 
 -- a segment whose value and size are known
 pub record Filled : Type 0 where
@@ -89,9 +94,9 @@ abbrev pub filled : Typed → Value → Option Value → Filled
 filled typed v size = record { typed = typed; value = v; size = size }
 
 -- a written size stands behind its segment's value
-abbrev pub filled_then : Size → Typed → Value → Values → (Values → List Filled) → List Filled
-filled_then (Written unit) typed v (more size vs) later = filled typed v (Some size) ∷ later vs
-filled_then (Written unit) typed v none later = filled typed v None ∷ later none
+abbrev pub filled_then : SizeUse → Typed → Value → Values → (Values → List Filled) → List Filled
+filled_then z.Given typed v (more size vs) later = filled typed v (Some size) ∷ later vs
+filled_then z.Given typed v none later = filled typed v None ∷ later none
 filled_then _ typed v vs later = filled typed v None ∷ later vs
 
 -- the segments with the values of their parts

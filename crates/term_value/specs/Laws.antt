@@ -6,6 +6,7 @@ use Rattle.std.specs.Cmp.Lexicographic.{slice_cmp}
 use Rattle.std.specs.declared.cmp.Ordering.TheVariants.{Equal}
 use Rattle.bits_value.specs.Number.{spell, InBits, bounded}
 use Rattle.bits_value.specs.declared.Sign.{Sign}
+use Rattle.bits_value.specs.declared.Sign.TheVariants.{Unsigned}
 use Rattle.bits_value.specs.Utf.{is_character}
 use Rattle.bits_value.specs.declared.UtfKind.{UtfKind}
 use Rattle.bits_value.specs.declared.Endian.{Endian}
@@ -13,7 +14,9 @@ use Rattle.term_value.specs.Value.{Value, VInt, VAtom, VPid, VTuple, VList, VBit
 use Rattle.term_value.specs.Order.{order}
 use Rattle.term_value.specs.Bounds.{bit_bound}
 use Rattle.term_value.specs.Setting.{Setting}
-use Rattle.term_value.specs.Segment.{Typed, Integer, Character, Written, Spelled}
+use Rattle.erl_syntax.specs.declared.typing.Typed.{Typed}
+use Rattle.erl_syntax.specs.declared.typing.Kind.TheVariants.{Int, Utf}
+use Rattle.erl_syntax.specs.declared.typing.SizeUse.TheVariants.{Given, NoSize}
 use Rattle.term_value.specs.Characters.{spelling}
 use Rattle.term_value.specs.Encode.{Bits, encoded}
 use Rattle.term_value.specs.Decode.{Cut, taken}
@@ -47,7 +50,7 @@ LegalIsShort = (code : Module) (reductions : ℕ) (entries : List Entry) → IsL
 
 -- an integer segment with a size in bits
 abbrev pub integer_segment : Sign → Endian → Typed
-integer_segment sign endian = record { kind = Integer sign endian; size = Written 1 }
+integer_segment sign endian = record { kind = Int; sign = sign; endian = endian; size = Given; unit = 1 }
 
 -- An integer within its bits and within the bound is encoded as its spelling, and read back from it into a variable, whatever
 -- bits follow.
@@ -59,7 +62,7 @@ IntegerReadsBack = (s : Setting) (sign : Sign) (endian : Endian) (n : ℕ) (v : 
 
 -- a character segment
 abbrev pub character_segment : UtfKind → Endian → Typed
-character_segment utf endian = record { kind = Character utf endian; size = Spelled }
+character_segment utf endian = record { kind = Utf utf; sign = Unsigned; endian = endian; size = NoSize; unit = 1 }
 
 -- A character is encoded as its spelling, and read back from it into a variable, whatever bits follow.
 abbrev pub CharacterReadsBack : Type 0

@@ -24,12 +24,10 @@ pub mod ReadTrees
 pub mod Reports
 pub mod Result
 pub mod Rows
-pub mod Segment
 pub mod Setting
 pub mod Step
 pub mod Terms
 pub mod Tree
-pub mod Typing
 pub mod Texts
 pub mod Value
 pub mod Worked
