@@ -115,8 +115,8 @@ module _ (r : Reading) where
       argument ≡ x.Var az (letter ∷ []) → r.number_at az ≡ number letter → line_of r i ≡ line number (item.Display letter)
   display_read number letter i at az home_at home argument home_name name pe ve he hn ne ae numbered =
       let called_with : Read → Read → Tree = λ h a. call r (h ∷ []) name (a ∷ []) in
-      let value : tree_of r i.value ≡ called_with (expr_read r home) (expr_read r argument) = ap (λ (u : Read). u.tree) (call_read i.value at (home ∷ []) name (argument ∷ []) ve) in
-      let homed : called_with (expr_read r home) (expr_read r argument) ≡ called_with (literal (VAtom home_name)) (expr_read r argument) = ap (λ h. called_with h (expr_read r argument)) (atom_read home home_at home_name he) in
+      let value : tree_of r i.value ≡ called_with (expr_read r home) (expr_read r argument) = ap (λ (u : Read). u.tree) (call_read r i.value at (home ∷ []) name (argument ∷ []) ve) in
+      let homed : called_with (expr_read r home) (expr_read r argument) ≡ called_with (literal (VAtom home_name)) (expr_read r argument) = ap (λ h. called_with h (expr_read r argument)) (atom_read r home home_at home_name he) in
       let argued : called_with (literal (VAtom home_name)) (expr_read r argument) ≡ called_with (literal (VAtom home_name)) (variable (r.number_at az)) = ap (called_with (literal (VAtom home_name))) (variable_read argument az (letter ∷ []) ae) in
       let shown : called_with (literal (VAtom home_name)) (variable (r.number_at az)) ≡ All Display (and (Var (r.number_at az)) end) =
       ap (λ form. All form (and (Var (r.number_at az)) end)) (displayed (r.names home_name) (r.names name) (r.place name 1) hn ne) in
