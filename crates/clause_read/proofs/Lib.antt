@@ -13,5 +13,5 @@ pub mod Modules
 pub mod NameLaws
 pub mod Numbers
 pub mod Once
+pub mod Places
 pub mod Strings
-pub mod Texts

@@ -9,10 +9,6 @@ use Rattle.erl_syntax.specs.declared.token.TokenKind.TheVariants as k
 use Rattle.pattern_read.specs.Source.{IsSound, words}
 use Rattle.clause_read.specs.declared.numbering.Numbering.{Numbering}
 
--- the token's bytes stand in the text
-abbrev pub IsWithin : List ℕ → Token → Type 0
-IsWithin text t = (t.from ≤ t.to) × (t.to ≤ length text)
-
 -- the words of tokens, where each token has the number that its table gives when it has been read
 abbrev pub words_after : List ℕ → List (List ℕ) → List Token → List Word
 words_after text table [] = []

@@ -3,11 +3,11 @@ ghost use Rattle.erl_syntax.specs.declared.token.Token.{Token};
 ghost use Rattle.erl_syntax.specs.Atoms.{fixed_atoms};
 ghost use Rattle.erl_syntax.specs.Characters.{integer_value, string_characters};
 ghost use Rattle.erl_syntax.specs.Reading.{with_atom, number_in, after_token, atoms_of, words_of, word_of, StandOnce};
-ghost use Rattle.erl_syntax.specs.Tokens.{token_text};
+ghost use Rattle.erl_syntax.specs.Tokens.{IsWithin, token_text};
 ghost use Rattle.erl_syntax.specs.declared.token.TokenKind.TheVariants as k;
 ghost use Rattle.erl_tokens.specs.Values.{IsInteger, AllIntegers};
 ghost use Rattle.pattern_read.specs.Source.{IsSound, words, word_of as word_with};
-ghost use Rattle.clause_read.specs.Numbering.{IsWithin, with_each, BeginsString, NoString, IsString, IsNumberedTo};
+ghost use Rattle.clause_read.specs.Numbering.{with_each, BeginsString, NoString, IsString, IsNumberedTo};
 
 use erl_syntax::{FIXED_ATOMS, Listed, Text, Token, TokenKind};
 use erl_tokens::{atom_text, character_number, integer_value, string_characters};

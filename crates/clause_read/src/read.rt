@@ -10,7 +10,7 @@ use crate::forms::{ModuleForms, read_forms};
 use crate::numbering::number;
 use crate::second::told_of;
 use erl_syntax::{LexCause, LexFault, Listed, Module, Span, Text};
-use erl_tokens::{longest_token, one_reading, tokens};
+use erl_tokens::{one_reading, tokens};
 use pattern_read::fault::Fault;
 use pattern_read::source::Source;
 use std::alloc::{AllocError, Global};
@@ -179,7 +179,6 @@ pub fn read_module(alloc: Global, text: &[u8]) -> Result<Module, ReadFault>
         return Err(fault_at(Span { line: 1, column: 1 }, ReadCause::TextTooLong));
     }
     one_reading();
-    longest_token();
     let found = tokens(alloc, text)?;
     let numbering = number(alloc, text, found.as_slice())?;
     let atoms = numbering.atoms.names(alloc)?;

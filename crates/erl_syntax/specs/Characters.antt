@@ -2,6 +2,7 @@
 use Rattle.std.specs.Prelude.{ℕ, zero, suc, ◌+◌, ◌-◌, ◌*◌, ◌%◌, Bool, ◌&&◌, ◌||◌, nat_le, nat_lt, ◌==◌, if◌then◌else◌, List, [], ◌∷◌, take, drop, slice_index, Option, Some, None, encode_utf8_all, length, map}
 use Rattle.std.specs.List.{prefix_len}
 use Rattle.std.specs.Char.{is_ascii_alphabetic, digit_value}
+use Rattle.bits_value.specs.Utf.{is_character}
 
 -- a byte that goes on with a character (RFC 3629, section 3: 10xxxxxx)
 abbrev pub is_continuation : ℕ → Bool
@@ -18,10 +19,6 @@ first_number bs = let b = slice_index bs 0 in
     else (if nat_lt b 224 then (b - 192) * 64 + slice_index bs 1 % 64
     else (if nat_lt b 240 then ((b - 224) * 64 + slice_index bs 1 % 64) * 64 + slice_index bs 2 % 64
     else (((b - 240) * 64 + slice_index bs 1 % 64) * 64 + slice_index bs 2 % 64) * 64 + slice_index bs 3 % 64))
-
--- the number is a character's: at most 16#10FFFF, and no surrogate
-abbrev pub is_scalar : ℕ → Bool
-is_scalar n = nat_lt n 0xD800 || (nat_le 0xE000 n && nat_le n 0x10FFFF)
 
 -- a digit of the base, as `0` to `9` and then the letters of either case
 abbrev pub is_digit : ℕ → ℕ → Bool
@@ -53,7 +50,7 @@ octal_number bs = let first = digit_value (slice_index bs 0) in let second = dig
 -- hexadecimal digits and `}` (125), where they are a character's number
 abbrev pub braced_len : List ℕ → Option ℕ
 braced_len bs = let n = prefix_len (is_digit 16) bs in
-    if nat_lt 0 n && (slice_index bs n == 125 && is_scalar (number 16 (take n bs))) then Some (n + 3) else None
+    if nat_lt 0 n && (slice_index bs n == 125 && is_character (number 16 (take n bs))) then Some (n + 3) else None
 
 -- after `x`: two hexadecimal digits, or digits between `{` (123) and `}`
 abbrev pub hexadecimal_len : List ℕ → Option ℕ
@@ -137,12 +134,12 @@ abbrev pub string_characters : List ℕ → List ℕ
 string_characters bs = spelled (between_quotes bs)
 
 -- the number, or that of the replacement character in the place of one that is no character's, as none is that a token spells
-abbrev pub as_scalar : ℕ → ℕ
-as_scalar n = if is_scalar n then n else 0xFFFD
+abbrev pub as_character : ℕ → ℕ
+as_character n = if is_character n then n else 0xFFFD
 
 -- an atom's characters, in UTF-8: a bare atom's are its own bytes
 abbrev pub atom_text : List ℕ → List ℕ
-atom_text bs = if slice_index bs 0 == 39 then encode_utf8_all (map as_scalar (spelled (between_quotes bs))) else bs
+atom_text bs = if slice_index bs 0 == 39 then encode_utf8_all (map as_character (spelled (between_quotes bs))) else bs
 
 -- the number of the character that `$` and a character or an escape stand for
 abbrev pub character_number : List ℕ → ℕ

@@ -3,7 +3,7 @@
 -- This profile has no floats, integers below 2^127, atoms of at most 255 characters, and no sigils and triple-quoted strings.
 -- A piece is what stands at the front of a text: white space or a comment, the longest token, or a fault.
 -- A text is read up to its first byte that belongs to no character: `cut` says that there is one.
-use Rattle.std.specs.Prelude.{ℕ, zero, suc, ◌+◌, ◌-◌, ◌^◌, ◌≡◌, ◌<◌, Bool, true, false, ◌&&◌, ◌||◌, not, nat_le, nat_lt, ◌==◌, if◌then◌else◌, List, [], ◌∷◌, length, take, drop, slice_index, Option, Some, None}
+use Rattle.std.specs.Prelude.{ℕ, zero, suc, ◌+◌, ◌-◌, ◌^◌, ◌≡◌, ◌<◌, ◌≤◌, Bool, true, false, ◌&&◌, ◌||◌, not, nat_le, nat_lt, ◌==◌, if◌then◌else◌, List, [], ◌∷◌, length, take, drop, slice_index, Option, Some, None}
 use Rattle.std.specs.List.{prefix_len, find}
 use Rattle.std.specs.Char.{is_ascii_alphabetic, is_ascii_alphanumeric, is_ascii_lowercase}
 use Rattle.std.specs.Str.Lossy.{utf8_valid_len}
@@ -206,6 +206,10 @@ is_cut text = nat_lt (utf8_valid_len text) (length text)
 -- the text has these tokens, up to its end or to its first fault
 abbrev pub Lexes : List ℕ → List Token → Option LexFault → Type 0
 Lexes text tokens fault = LexesFrom (front text) (is_cut text) 0 tokens fault
+
+-- the token's bytes stand in the text, and there is at least one
+abbrev pub IsWithin : List ℕ → Token → Type 0
+IsWithin text token = (token.from < token.to) × (token.to ≤ length text)
 
 -- the bytes of a token
 abbrev pub token_text : List ℕ → Token → List ℕ

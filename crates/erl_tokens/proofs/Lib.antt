@@ -12,3 +12,4 @@ pub mod LongestQuote
 pub mod LongestToken
 pub mod TokenWithin
 pub mod TokenItself
+pub mod AllWithin

@@ -5,13 +5,14 @@ use Rattle.std.specs.Char.{is_ascii_alphabetic}
 use Rattle.std.proofs.lemmas.Grind.{common_steps}
 use Rattle.std.proofs.lemmas.List.{drop-take, get_or-take, length-take}
 use Rattle.std.proofs.lemmas.List.Sums.{prefix_len-le-length}
+use Rattle.bits_value.specs.Utf.{is_character}
 use Rattle.erl_syntax.specs.declared.token.TokenKind.{TokenKind}
 use Rattle.erl_syntax.specs.declared.token.TokenKind.TheVariants as k
 use Rattle.erl_syntax.specs.declared.token.LexCause.{LexCause}
 use Rattle.erl_syntax.specs.declared.token.LexCause.TheVariants as why
 use Rattle.erl_syntax.specs.declared.token.Piece.{Piece}
 use Rattle.erl_syntax.specs.declared.token.Piece.TheVariants as p
-use Rattle.erl_syntax.specs.Characters.{is_continuation, character_len, is_digit, number, is_scalar, escape_len, octal_len, hexadecimal_len, braced_len, control_len, spelled, between_quotes}
+use Rattle.erl_syntax.specs.Characters.{is_continuation, character_len, is_digit, number, escape_len, octal_len, hexadecimal_len, braced_len, control_len, spelled, between_quotes}
 use Rattle.erl_syntax.specs.Tokens.{character, escaped_character, no_escape, string, quoted_atom, quoted, limited}
 use Rattle.erl_tokens.proofs.IntegerValues.{prefix_take, take_take}
 use Rattle.erl_tokens.proofs.FoundMark.{and_left, and_right}
@@ -56,7 +57,7 @@ octal_take e j r h l = octal_by e j r (is_digit 8 (get_or r 1 0)) (is_digit 8 (g
 
 -- the braced escape of n digits, the byte behind them and the digits
 braced_by : ℕ → ℕ → List ℕ → Option ℕ
-braced_by n b digits = if nat_lt 0 n && (b == 125 && is_scalar (number 16 digits)) then Some (n + 3) else None
+braced_by n b digits = if nat_lt 0 n && (b == 125 && is_character (number 16 digits)) then Some (n + 3) else None
 
 braced_if : (c : Bool) (n e : ℕ) → (if c then Some (n + 3) else None) ≡ Some e → n + 3 ≡ e
 braced_if true n e h = some_same (n + 3) e h
@@ -66,7 +67,7 @@ braced_take : (e j : ℕ) (zs : List ℕ) → braced_len zs ≡ Some e → e ≤
 unfolding braced_by
 braced_take e j zs h l =
     let n : ℕ = prefix_len (is_digit 16) zs in
-    let a : n + 3 ≡ e = braced_if (nat_lt 0 n && (get_or zs n 0 == 125 && is_scalar (number 16 (take n zs)))) n e h in
+    let a : n + 3 ≡ e = braced_if (nat_lt 0 n && (get_or zs n 0 == 125 && is_character (number 16 (take n zs)))) n e h in
     let s : prefix_len (is_digit 16) (take j zs) ≡ n = prefix_take (is_digit 16) zs j (omega arith) in
     let F : ℕ → Option ℕ = λ i. braced_by i (get_or (take j zs) i 0) (take i (take j zs)) in
     ap F s ∙ ap (λ b. braced_by n b (take n (take j zs))) (get_or-take j zs n 0 (omega arith)) ∙ ap (λ u. braced_by n (get_or zs n 0) u) (take_take n j zs (omega arith)) ∙ h
@@ -105,7 +106,7 @@ hexadecimal_least : (c : Bool) (e : ℕ) (ys : List ℕ) → (get_or ys 0 0 == 1
 hexadecimal_least true e ys c h =
     let a : braced_len (drop 1 ys) ≡ Some e = rw c at h in
     let n : ℕ = prefix_len (is_digit 16) (drop 1 ys) in
-    omega (arith, braced_if (nat_lt 0 n && (get_or (drop 1 ys) n 0 == 125 && is_scalar (number 16 (take n (drop 1 ys))))) n e a)
+    omega (arith, braced_if (nat_lt 0 n && (get_or (drop 1 ys) n 0 == 125 && is_character (number 16 (take n (drop 1 ys))))) n e a)
 hexadecimal_least false e ys c h =
     let a : (if is_digit 16 (get_or ys 0 0) && is_digit 16 (get_or ys 1 0) then Some 3 else None) ≡ Some e = rw c at h in
     omega (arith, pair_if (is_digit 16 (get_or ys 0 0) && is_digit 16 (get_or ys 1 0)) e a)
@@ -197,7 +198,7 @@ octal_fits false d e r x y z h = let a : 1 ≡ e = rw x at h in omega (arith, a,
 braced_fits : (e : ℕ) (zs : List ℕ) → braced_len zs ≡ Some e → e ≤ length zs + 2
 braced_fits e zs h =
     let n : ℕ = prefix_len (is_digit 16) zs in
-    let rest : Bool = is_scalar (number 16 (take n zs)) in
+    let rest : Bool = is_character (number 16 (take n zs)) in
     let c : (nat_lt 0 n && (get_or zs n 0 == 125 && rest)) ≡ true = some_if (nat_lt 0 n && (get_or zs n 0 == 125 && rest)) (n + 3) e h in
     let d : (get_or zs n 0 == 125) ≡ true = and_left (get_or zs n 0 == 125) rest (and_right (nat_lt 0 n) (get_or zs n 0 == 125 && rest) c) in
     omega (arith, braced_if (nat_lt 0 n && (get_or zs n 0 == 125 && rest)) n e h, standing (λ b. b == 125) n zs refl d)

@@ -6,7 +6,7 @@ use Rattle.std.proofs.lemmas.List.{drop-drop, length-drop}
 use Rattle.erl_syntax.specs.declared.token.TokenKind.{TokenKind}
 use Rattle.erl_syntax.specs.declared.token.TokenKind.TheVariants as k
 use Rattle.erl_syntax.specs.declared.token.Piece.TheVariants as p
-use Rattle.erl_syntax.specs.Characters.{escape_len, character_len, spelled, spelled_from, spelled_len, spelled_number, as_scalar}
+use Rattle.erl_syntax.specs.Characters.{escape_len, character_len, spelled, spelled_from, spelled_len, spelled_number, as_character}
 use Rattle.erl_syntax.specs.Tokens.{quoted, no_escape, character}
 use Rattle.erl_tokens.proofs.Numbers.{at_front}
 
@@ -121,10 +121,10 @@ spelled_push i len number bs tail done more t h p l n m e =
     e ∙ ap (λ u. done ++ u) s ∙ sym (append_assoc done (number ∷ []) rest) ∙ ap (λ u. u ++ rest) (sym m)
 
 pub text_push : (i len number : ℕ) (bs tail done more : List ℕ) → tail ≡ drop i bs → i < length bs → 0 < len → len ≡ spelled_len tail → number ≡ spelled_number tail →
-    more ≡ done ++ encode_utf8 (as_scalar number) → encode_utf8_all (map as_scalar (spelled bs)) ≡ done ++ encode_utf8_all (map as_scalar (spelled (drop i bs))) →
-    encode_utf8_all (map as_scalar (spelled bs)) ≡ more ++ encode_utf8_all (map as_scalar (spelled (drop (i + len) bs)))
+    more ≡ done ++ encode_utf8 (as_character number) → encode_utf8_all (map as_character (spelled bs)) ≡ done ++ encode_utf8_all (map as_character (spelled (drop i bs))) →
+    encode_utf8_all (map as_character (spelled bs)) ≡ more ++ encode_utf8_all (map as_character (spelled (drop (i + len) bs)))
 text_push i len number bs tail done more t h p l n m e =
     let rest : List ℕ = spelled (drop (i + len) bs) in
     let s : spelled (drop i bs) ≡ number ∷ rest = spelled_step i len bs tail t h p l ∙ ap (λ x. x ∷ rest) (sym n) in
-    e ∙ ap (λ u. done ++ encode_utf8_all (map as_scalar u)) s ∙ sym (append_assoc done (encode_utf8 (as_scalar number)) (encode_utf8_all (map as_scalar rest))) ∙
-    ap (λ u. u ++ encode_utf8_all (map as_scalar rest)) (sym m)
+    e ∙ ap (λ u. done ++ encode_utf8_all (map as_character u)) s ∙ sym (append_assoc done (encode_utf8 (as_character number)) (encode_utf8_all (map as_character rest))) ∙
+    ap (λ u. u ++ encode_utf8_all (map as_character rest)) (sym m)

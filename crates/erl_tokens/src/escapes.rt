@@ -1,6 +1,7 @@
 ghost use Rattle.std.specs.Prelude.{◌≡◌, ◌≤◌, ◌<◌, ◌+◌, ◌-◌, length, drop, take, slice_index, IfSome};
 ghost use Rattle.erl_tokens.specs.Escapes.{IsEscape};
-ghost use Rattle.erl_syntax.specs.Characters.{escape_len, escape_number, named_number, hexadecimal_len, hexadecimal_number, braced_len, control_len, octal_len, octal_number, is_scalar, number, is_digit};
+ghost use Rattle.erl_syntax.specs.Characters.{escape_len, escape_number, named_number, hexadecimal_len, hexadecimal_number, braced_len, control_len, octal_len, octal_number, number, is_digit};
+ghost use Rattle.bits_value.specs.Utf.{is_character};
 ghost use Rattle.std.specs.List.{prefix_len};
 ghost use Rattle.std.specs.Char.{digit_value};
 
@@ -91,7 +92,7 @@ fn braced(bs: &[u8]) -> Option<Escaped>
         return None;
     }
     let number = number(&bs[..digits], 16)?;
-    if !is_scalar(number) {
+    if !is_character(number) {
         return None;
     }
     Some(Escaped {
@@ -101,10 +102,10 @@ fn braced(bs: &[u8]) -> Option<Escaped>
 }
 
 /// Whether the number is a character's.
-fn is_scalar(number: u128) -> bool
-    ensures value { result ≡ is_scalar number }
+fn is_character(number: u128) -> bool
+    ensures value { result ≡ is_character number }
 {
-    number < 0xD800 || (0xE000 <= number && number <= 0x10FFFF)
+    number < 0xD800 || (0xE000 <= number && number < 0x11_0000)
 }
 
 /// After `^`: a letter, which stands for its number in the alphabet.

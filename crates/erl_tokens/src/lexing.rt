@@ -1,6 +1,6 @@
-ghost use Rattle.std.specs.Prelude.{◌≡◌, ◌<◌, ◌≤◌, ◌+◌, ◌^◌, length, take, IfOk, IfErr, None, ℕ, List, Option, Bool};
+ghost use Rattle.std.specs.Prelude.{◌≡◌, ◌<◌, ◌≤◌, ◌+◌, ◌^◌, length, take, All, IfOk, IfErr, None, ℕ, List, Option, Bool};
 ghost use Rattle.std.specs.Str.Lossy.{utf8_valid_len};
-ghost use Rattle.erl_syntax.specs.Tokens.{Lexes, LexesFrom, front, is_cut};
+ghost use Rattle.erl_syntax.specs.Tokens.{Lexes, LexesFrom, IsWithin, front, is_cut};
 ghost use Rattle.erl_tokens.specs.Cutting.{IsFault};
 ghost use Rattle.erl_tokens.specs.Values.{AllIntegers};
 ghost use Rattle.erl_tokens.specs.Longest.{IsToken};
@@ -33,6 +33,8 @@ pub fn tokens(alloc: Global, text: &[u8]) -> Result<Vec<Token>, LexFault>
     requires { length text.now ≤ 1048576 }
     ensures tokens { IfOk result (λ v. Lexes text.now v.items None) }
     ensures integers { IfOk result (λ v. AllIntegers text.now v.items) }
+    ensures within { IfOk result (λ v. All (IsWithin text.now) v.items) }
+    ensures few { IfOk result (λ v. length v.items ≤ length text.now) }
     ensures fault { IfErr result (λ fault. IsFault text.now fault) }
 {
     let front = front(text);

@@ -1,6 +1,6 @@
 ghost use Rattle.std.specs.Prelude.{◌≡◌, ◌≤◌, ◌++◌, pos, OnOk, string_bytes, IfOk, IfSome, IsSome, MatchOption, ◌<◌, ◌^◌};
 ghost use Rattle.std.specs.Char.{encode_utf8};
-ghost use Rattle.erl_syntax.specs.Characters.{integer_value, character_number, string_characters, atom_text, as_scalar, number};
+ghost use Rattle.erl_syntax.specs.Characters.{integer_value, character_number, string_characters, atom_text, as_character, number};
 ghost use Rattle.erl_tokens.specs.Values.{IsInteger};
 
 use crate::characters::{digit_run, is_at, number};
@@ -64,8 +64,8 @@ pub fn string_characters(alloc: Global, token: &[u8]) -> Result<Vec<u32>, AllocE
 }
 
 /// The character of that number, or the replacement character where it is no character's.
-fn as_scalar(number: u32) -> char
-    ensures { result ≡ as_scalar number }
+fn as_character(number: u32) -> char
+    ensures { result ≡ as_character number }
 {
     char::from_u32(number).unwrap_or('\u{FFFD}')
 }
@@ -82,7 +82,7 @@ pub fn atom_text(alloc: Global, token: &[u8]) -> Result<Text, AllocError>
     let mut at = 0;
     while at < bs.len() {
         let unit = unit(&bs[at..]);
-        text.push(as_scalar(unit.number))?;
+        text.push(as_character(unit.number))?;
         at += unit.len;
     }
     Ok(Text::of(text.into_bytes()))

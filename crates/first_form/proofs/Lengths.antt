@@ -1,21 +1,17 @@
 -- A text within its limit has no bit expression that passes the bound of a bitstring.
-use Rattle.std.proofs.Common.{◌≡◌, ℕ, ◌+◌, ◌*◌, ◌≤◌, ◌<◌, min, Bool, true, false, IsTrue, MatchBool, List, [], ◌∷◌, ◌++◌, length, map, drop, codes, All, Option, None, arith, length-append, ap, sym, ◌∙◌}
-use Rattle.std.specs.List.{flat_map, AllByRecursion}
-use Rattle.std.specs.Str.Lossy.{utf8_valid_len}
+use Rattle.std.proofs.Common.{◌≡◌, ℕ, ◌+◌, ◌*◌, ◌≤◌, Bool, true, false, IsTrue, MatchBool, List, [], ◌∷◌, ◌++◌, length, map, codes, All, arith, length-append, ap, sym, ◌∙◌}
+use Rattle.std.specs.List.{flat_map}
 use Rattle.std.proofs.lemmas.Bool.{false≢true}
 use Rattle.std.proofs.lemmas.Grind.{common_steps}
-use Rattle.std.proofs.lemmas.List.{length-map, length-drop, length-take}
-use Rattle.std.proofs.lemmas.List.Elements.{All-nil, All-cons, All-from_recursion}
+use Rattle.std.proofs.lemmas.List.{length-map}
+use Rattle.std.proofs.lemmas.List.Elements.{All-nil, All-cons}
 use Rattle.std.proofs.lemmas.List.Concat.{flat_map-cons}
 use Rattle.std.proofs.lemmas.List.Sums.{sum_by-le}
 use Rattle.erl_syntax.specs.declared.token.Token.{Token}
-use Rattle.erl_syntax.specs.declared.token.TokenKind.{TokenKind}
-use Rattle.erl_syntax.specs.declared.token.LexFault.{LexFault}
-use Rattle.erl_syntax.specs.declared.token.Piece.TheVariants as p
-use Rattle.erl_syntax.specs.Tokens.{piece, front, is_cut, Lexes, LexesFrom, ends, stops, skips, finds, refuses, token_text}
+use Rattle.erl_syntax.specs.Tokens.{token_text}
 use Rattle.first_form.specs.Form.{IsItem, AreItems, IsPart, IsShort, IsStraight, bound_by, parts_bits, part_size}
 use Rattle.first_form.specs.TreeOf.{separated, field_words, part_words, item_words, words_of}
-use Rattle.first_form.specs.Walk.{Fits, IsWithin}
+use Rattle.first_form.specs.Walk.{Fits}
 use Rattle.first_form.specs.declared.form.Part.{Part}
 use Rattle.first_form.specs.declared.form.Item.{Item}
 use Rattle.first_form.specs.declared.form.Item.TheVariants.{Match, Display}
@@ -23,52 +19,15 @@ use Rattle.first_form.specs.declared.form.Straight.{Straight}
 
 -- ---- Tokens
 
--- what the longest token at the front of a text keeps to
-abbrev pub Fronts : Type 0
-Fronts = (cut : Bool) (bs : List ℕ) (kind : TokenKind) (n : ℕ) → piece cut bs ≡ p.Token kind n → (0 < n) × (n ≤ length bs)
-
-within_from : Fronts → (text : List ℕ) (cut : Bool) (i : ℕ) (tokens : List Token) (fault : Option LexFault) → LexesFrom text cut i tokens fault → AllByRecursion (IsWithin text) tokens
-within_from f text cut _ _ _ (ends i e c) = tt
-within_from f text cut _ _ _ (stops i e c) = tt
-within_from f text cut _ _ _ (skips i n tokens fault h e z) = within_from f text cut (i + n) tokens fault z
-within_from f text cut _ _ _ (finds i n kind tokens fault h e z) =
-    let m : n ≤ length (drop i text) = (f cut (drop i text) kind n e).1 in
-    ((omega arith, omega (arith, m, h, length-drop i text)), within_from f text cut (i + n) tokens fault z)
-within_from f text cut _ _ _ (refuses i n cause h e) = tt
-
-few_from : Fronts → (text : List ℕ) (cut : Bool) (i : ℕ) (tokens : List Token) (fault : Option LexFault) → LexesFrom text cut i tokens fault → i + length tokens ≤ length text
-few_from f text cut _ _ _ (ends i e c) = omega (arith, e)
-few_from f text cut _ _ _ (stops i e c) = omega (arith, e)
-few_from f text cut _ _ _ (skips i n tokens fault h e z) = let k : i + n + length tokens ≤ length text = few_from f text cut (i + n) tokens fault z in omega (arith, k)
-few_from f text cut _ _ _ (finds i n kind tokens fault h e z) =
-    let m : (0 < n) × (n ≤ length (drop i text)) = f cut (drop i text) kind n e in
-    let k : i + n + length tokens ≤ length text = few_from f text cut (i + n) tokens fault z in omega (arith, k, m.0)
-few_from f text cut _ _ _ (refuses i n cause h e) = omega (arith, h)
-
-front_short : (text : List ℕ) → length (front text) ≤ length text
-front_short text = let e : length (front text) ≡ min (utf8_valid_len text) (length text) = length-take (utf8_valid_len text) text in omega (arith, e)
-
-within_text : (text : List ℕ) (tokens : List Token) → AllByRecursion (IsWithin (front text)) tokens → AllByRecursion (IsWithin text) tokens
-within_text text [] a = tt
-within_text text (t ∷ ts) a = let h : length (front text) ≤ length text = front_short text in ((a.0.0, omega (arith, a.0.1, h)), within_text text ts a.1)
-
--- each token of a text stands in it, and there are no more of them than bytes
-pub all_within : Fronts → (text : List ℕ) (tokens : List Token) (fault : Option LexFault) → Lexes text tokens fault → All (IsWithin text) tokens
-all_within f text tokens fault d = All-from_recursion (IsWithin text) tokens (within_text text tokens (within_from f (front text) (is_cut text) 0 tokens fault d))
-
-few_tokens : Fronts → (text : List ℕ) (tokens : List Token) (fault : Option LexFault) → Lexes text tokens fault → length tokens ≤ length text
-few_tokens f text tokens fault d = let k : 0 + length tokens ≤ length (front text) = few_from f (front text) (is_cut text) 0 tokens fault d in let h : length (front text) ≤ length text = front_short text in omega (arith, k, h)
-
-pub few_words : Fronts → (text : List ℕ) (tokens : List Token) (words : List (List ℕ)) → Lexes text tokens None → map (token_text text) tokens ≡ words → length words ≤ length text
-few_words f text tokens words d e =
+few_words : (text : List ℕ) (tokens : List Token) (words : List (List ℕ)) → length tokens ≤ length text → map (token_text text) tokens ≡ words → length words ≤ length text
+few_words text tokens words h e =
     let n : length words ≡ length tokens = ap length (sym e) ∙ length-map tokens (token_text text) in
-    let h : length tokens ≤ length text = few_tokens f text tokens None d in
     omega (arith, n, h)
 
-pub few_told : Fronts → (text : List ℕ) (tokens seen : List Token) (words shown spelled : List (List ℕ)) (b : Bool) → seen ≡ tokens → shown ≡ words → words ≡ spelled → Lexes text tokens None →
+pub few_told : (text : List ℕ) (tokens seen : List Token) (words shown spelled : List (List ℕ)) (b : Bool) → seen ≡ tokens → shown ≡ words → words ≡ spelled → length tokens ≤ length text →
     MatchBool b (map (token_text text) seen ≡ shown) (map (token_text text) seen ≡ shown → ⊥) → IsTrue b → length spelled ≤ length text
-few_told f text tokens seen words shown spelled true s w z d h t = few_words f text tokens spelled d (ap (map (token_text text)) (sym s) ∙ h ∙ w ∙ z)
-few_told f text tokens seen words shown spelled false s w z d h t = absurd (false≢true t)
+few_told text tokens seen words shown spelled true s w z d h t = few_words text tokens spelled d (ap (map (token_text text)) (sym s) ∙ h ∙ w ∙ z)
+few_told text tokens seen words shown spelled false s w z d h t = absurd (false≢true t)
 
 -- ---- Words
 

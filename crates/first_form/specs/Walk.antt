@@ -1,8 +1,7 @@
 -- What the steps of reading a tree find (this project's own): they serve the contracts of private functions.
-use Rattle.std.specs.Prelude.{◌≡◌, ℕ, pos, ◌≤◌, List, [], ◌∷◌, ◌++◌, length, codes, cond, nat_eq, All}
+use Rattle.std.specs.Prelude.{◌≡◌, ℕ, pos, ◌≤◌, List, [], ◌∷◌, ◌++◌, codes, cond, nat_eq, All}
 use Rattle.erl_syntax.specs.Checking.{Spelled}
 use Rattle.erl_syntax.specs.declared.span.Span.{Span}
-use Rattle.erl_syntax.specs.declared.token.Token.{Token}
 use Rattle.erl_syntax.specs.declared.expr.Expr.{Expr}
 use Rattle.erl_syntax.specs.declared.segment.Segment.{Segment}
 use Rattle.erl_syntax.specs.declared.clause.Item as syntax_item
@@ -68,10 +67,6 @@ pub record HasBody (m : Module) (clause : Clause) : Type 0 where
   pub clauses : function.clauses ≡ clause ∷ []
   pub no_patterns : clause.patterns ≡ []
   pub no_guard : clause.guard.alternatives ≡ []
-
--- the token lies within the text
-abbrev pub IsWithin : List ℕ → Token → Type 0
-IsWithin text t = (t.from ≤ t.to) × (t.to ≤ length text)
 
 -- what stands before the word at this index
 abbrev pub comma_before : ℕ → List (List ℕ)

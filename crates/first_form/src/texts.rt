@@ -1,14 +1,13 @@
 // Whether a text has the words of a module.
 ghost use Rattle.std.specs.Prelude.{◌≡◌, ◌≤◌, ◌↔◌, ℕ, List, length, map, All, IfOk, MatchBool, IsTrue};
-ghost use Rattle.erl_syntax.specs.Tokens.{token_text};
+ghost use Rattle.erl_syntax.specs.Tokens.{IsWithin, token_text};
 ghost use Rattle.first_form.specs.Form.{IsStraight};
 ghost use Rattle.first_form.specs.TreeOf.{IsForm, words_of};
-ghost use Rattle.first_form.specs.Walk.{IsWithin};
 
 use crate::form::Straight;
 use crate::words::words_of;
 use erl_syntax::{LexCause, Text, Token};
-use erl_tokens::{longest_token, one_reading, tokens};
+use erl_tokens::{one_reading, tokens};
 use std::alloc::{AllocError, Global};
 
 // Whether the tokens of a text are these words.
@@ -34,7 +33,6 @@ pub(crate) fn has_words(alloc: Global, text: &[u8], straight: &Straight) -> Resu
     ensures few { IfOk result (λ has. IsTrue has → length (words_of straight.now) ≤ length text.now) }
 {
     one_reading();
-    longest_token();
     let tokens = match tokens(alloc, text) {
         Ok(tokens) => tokens,
         Err(fault) if fault.why == LexCause::NoMemory => return Err(AllocError),

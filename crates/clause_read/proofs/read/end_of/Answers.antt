@@ -1,6 +1,6 @@
 use Rattle.std.proofs.Common.{◌∙◌, ◌+◌, ◌-◌, arith, sym, ap, length, drop}
 use Rattle.erl_syntax.specs.Tokens.{place_from}
-use Rattle.clause_read.proofs.Texts.{place_step}
+use Rattle.clause_read.proofs.Places.{place_step}
 use Rattle.clause_read.proofs.read.end_of.Goals as goal
 
 pub loop-b-preserved : goal.loop-b-preserved

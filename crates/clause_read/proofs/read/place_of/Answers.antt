@@ -1,5 +1,5 @@
 use Rattle.std.proofs.Common.{arith}
-use Rattle.clause_read.proofs.Texts.{place_there, place_behind, place_past}
+use Rattle.clause_read.proofs.Places.{place_there, place_behind, place_past}
 use Rattle.clause_read.proofs.read.place_of.Goals as goal
 
 pub returns-then-len-at : goal.returns-then-len-at

@@ -1,12 +1,11 @@
-use Rattle.std.proofs.Common.{rules, arith, ◌≡◌, ◌≤◌, ◌∙◌, ap, sym, subst, List, ℕ, ◌^◌, length, drop, None, Err, inr}
+use Rattle.std.proofs.Common.{rules, arith, ◌≡◌, ◌≤◌, ◌∙◌, ap, sym, subst, List, ℕ, ◌^◌, length, drop, All, None, Err, inr}
 use Rattle.std.proofs.lemmas.Result.{err_from_is_err_and}
 use Rattle.erl_syntax.specs.declared.token.Token.{Token}
-use Rattle.erl_syntax.specs.Tokens.{Lexes}
+use Rattle.erl_syntax.specs.Tokens.{Lexes, IsWithin}
 use Rattle.erl_syntax.specs.Reading.{longest_text, atoms_of, words_of}
 use Rattle.pattern_read.specs.declared.fault.Fault.{Fault}
 use Rattle.clause_read.specs.WantedForms.{ReadsForms}
 use Rattle.clause_read.proofs.Modules.{module_read, module_only, word_fault, word_none, token_fault, forms_strict, refused_strict, source_words, source_short, refused_place}
-use Rattle.clause_read.proofs.Texts.{Fronts, all_within, few_tokens}
 use Rattle.clause_read.proofs.read.read_module.Goals as goal
 
 pub returns-in_err-found-clause-fault : goal.returns-in_err-found-clause-fault
@@ -15,37 +14,26 @@ returns-in_err-found-clause-fault c = let p = err_from_is_err_and c.from_residua
     rw p.1 (token_fault c.args.text.now _ p.0 h c.in_err-found.ensures.fault p.2)
 
 pub number-requires-clause-within : goal.number-requires-clause-within
-number-requires-clause-within c =
-    let f : Fronts = λ cut bs kind n e. let m = c.longest_token.ensures.itself cut bs kind n e in (m.0, m.1) in
-    let P : List Token → Type 0 = λ ts. Lexes c.args.text.now ts None in
-    all_within f c.args.text.now c.as_slice.result.now None (subst P (sym c.as_slice.ensures.value) c.in_ok-found.ensures.tokens)
+number-requires-clause-within c = subst (All (IsWithin c.args.text.now)) (sym c.as_slice.ensures.value) c.in_ok-found.ensures.within
 
 pub number-requires-clause-few : goal.number-requires-clause-few
 number-requires-clause-few c =
-    let f : Fronts = λ cut bs kind n e. let m = c.longest_token.ensures.itself cut bs kind n e in (m.0, m.1) in
-    let P : List Token → Type 0 = λ ts. Lexes c.args.text.now ts None in
     let h : length c.args.text.now ≤ longest_text = search rules in
-    omega (arith, h, few_tokens f c.args.text.now c.as_slice.result.now None (subst P (sym c.as_slice.ensures.value) c.in_ok-found.ensures.tokens))
+    omega (arith, h, ap length c.as_slice.ensures.value, c.in_ok-found.ensures.few)
 
 pub read_forms-requires-clause-short : goal.read_forms-requires-clause-short
 read_forms-requires-clause-short c =
     let T : List Token = c.as_slice.result.now in
     let h : length c.args.text.now ≤ longest_text = search rules in
-    let f : Fronts = λ cut bs kind n e. let m = c.longest_token.ensures.itself cut bs kind n e in (m.0, m.1) in
-    let P : List Token → Type 0 = λ ts. Lexes c.args.text.now ts None in
-    let d : Lexes c.args.text.now T None = subst P (sym c.as_slice.ensures.value) c.in_ok-found.ensures.tokens in
     let w : c.of-source.result.words ≡ words_of c.args.text.now (atoms_of c.args.text.now T) T = source_words c.args.text.now c.in_ok-to_vec.field-0.items T c.in_ok-numbering.numbering.strings.items c.in_ok-numbering.numbering.read.items c.of-source.result.words (ap (λ v. v.words) c.of-source.ensures) (c.in_ok-to_vec.ensures.items_if_clones_equal (search rules)) c.in_ok-numbering.ensures.words in
-    source_short c.args.text.now T c.of-source.result.words (2 ^ 32) w (omega (arith, h, few_tokens f c.args.text.now T None d))
+    source_short c.args.text.now T c.of-source.result.words (2 ^ 32) w (omega (arith, h, ap length c.as_slice.ensures.value, c.in_ok-found.ensures.few))
 
 pub told_of-requires-clause-short : goal.told_of-requires-clause-short
 told_of-requires-clause-short c =
     let T : List Token = c.as_slice.result.now in
     let h : length c.args.text.now ≤ longest_text = search rules in
-    let f : Fronts = λ cut bs kind n e. let m = c.longest_token.ensures.itself cut bs kind n e in (m.0, m.1) in
-    let P : List Token → Type 0 = λ ts. Lexes c.args.text.now ts None in
-    let d : Lexes c.args.text.now T None = subst P (sym c.as_slice.ensures.value) c.in_ok-found.ensures.tokens in
     let w : c.of-source.result.words ≡ words_of c.args.text.now (atoms_of c.args.text.now T) T = source_words c.args.text.now c.in_ok-to_vec.field-0.items T c.in_ok-numbering.numbering.strings.items c.in_ok-numbering.numbering.read.items c.of-source.result.words (ap (λ v. v.words) c.of-source.ensures) (c.in_ok-to_vec.ensures.items_if_clones_equal (search rules)) c.in_ok-numbering.ensures.words in
-    source_short c.args.text.now T c.of-source.result.words (2 ^ 32) w (omega (arith, h, few_tokens f c.args.text.now T None d))
+    source_short c.args.text.now T c.of-source.result.words (2 ^ 32) w (omega (arith, h, ap length c.as_slice.ensures.value, c.in_ok-found.ensures.few))
 
 pub returns-in-Ok-clause-module : goal.returns-in-Ok-clause-module
 returns-in-Ok-clause-module c =

@@ -3,6 +3,7 @@ use Rattle.std.proofs.lemmas.List.{take_rest}
 use Rattle.erl_tokens.proofs.Placed.{place_next}
 use Rattle.erl_tokens.proofs.Cut.{skip_step, find_step, fault_step, cut_step, end_step, lexes_text, moved, take_within}
 use Rattle.erl_tokens.proofs.AllValues.{text_integers}
+use Rattle.erl_tokens.proofs.AllWithin.{all_within, few_tokens}
 use Rattle.erl_tokens.proofs.lexing.tokens.Goals as goal
 use Rattle.erl_tokens.proofs.lexing.tokens.Goals.{in-Blank, in-Token+in_ok-push-in-Token}
 
@@ -31,10 +32,13 @@ returns-clause-tokens c =
     (end_step c.front-front.result.now _ c.loop-at.at _ c.loop-at.invariant.within (omega arith) (search rules) c.loop-at.invariant.found)
 
 pub returns-clause-integers : goal.returns-clause-integers
-returns-clause-integers c =
-    text_integers c.args.text.now _
-    (lexes_text c.args.text.now c.front-front.result.now _ _ c.front-front.ensures
-    (end_step c.front-front.result.now _ c.loop-at.at _ c.loop-at.invariant.within (omega arith) (search rules) c.loop-at.invariant.found))
+returns-clause-integers c = text_integers c.args.text.now _ (returns-clause-tokens c)
+
+pub returns-clause-within : goal.returns-clause-within
+returns-clause-within c = all_within c.args.text.now _ _ (returns-clause-tokens c)
+
+pub returns-clause-few : goal.returns-clause-few
+returns-clause-few c = few_tokens c.args.text.now _ _ (returns-clause-tokens c)
 
 pub loop-at-preserved : goal.loop-at-preserved
 loop-at-preserved c =
