@@ -1,7 +1,7 @@
 //! Laws of encoding and decoding, of calls, of local states, of orders, of reports and of the order of terms, each the
 //! contract of a function.
 ghost use Rattle.term_value.specs.CallLaws.{CallsAreRead};
-ghost use Rattle.term_value.specs.Laws.{CharacterReadsBack, CompleteIsLast, EachAsks, EntryIsLine, EqualIsSame, IntegerReadsBack, LegalIsShort, NamesByCharacters, OneOrder, OrderIsTotal, OutcomeReports};
+ghost use Rattle.term_value.specs.Laws.{CharacterReadsBack, CompleteIsLast, EachAsks, EntryIsLine, EqualIsSame, FreeShrinks, IntegerReadsBack, LegalIsShort, NamesByCharacters, OneOrder, OrderIsTotal, OutcomeReports};
 
 /// An integer within its bits and the bound is read back from its encoding, whatever bits follow.
 pub fn integer_reads_back()
@@ -13,9 +13,14 @@ pub fn character_reads_back()
     ensures { CharacterReadsBack }
 {}
 
-/// Each local state of a process has a next ask.
+/// Each local state of a process contracts to one that asks, and what that asks for is the state's one next ask.
 pub fn each_asks()
     ensures { EachAsks }
+{}
+
+/// A contraction without cost makes the expression smaller.
+pub fn free_shrinks()
+    ensures { FreeShrinks }
 {}
 
 /// No entry is legal after a complete order.

@@ -2,7 +2,7 @@ ghost use Rattle.std.specs.Prelude.{◌≡◌, ◌≤◌, ◌*◌, ◌<◌, leng
 
 use crate::{
     Arith, Items, Look, Term, arith, character_reads_back, compare, complete_is_last, depth,
-    each_asks, entry_is_line, equal_is_same, integer_reads_back, legal_is_short,
+    each_asks, entry_is_line, equal_is_same, free_shrinks, integer_reads_back, legal_is_short,
     names_by_characters, one_order, order_is_total, outcome_reports, show, weight,
 };
 use bits_value::{Bits, Frozen};
@@ -226,6 +226,7 @@ fn laws_are_calls() {
     character_reads_back();
     legal_is_short();
     each_asks();
+    free_shrinks();
     complete_is_last();
     order_is_total();
     equal_is_same();
