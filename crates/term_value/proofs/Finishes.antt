@@ -1,13 +1,13 @@
--- A local state comes to an ask: it never stays unfinished.
-use Rattle.std.proofs.Common.{◌≡◌, ◌⊎◌, inl, inr, ℕ, zero, suc, Bool, true, false, ◌<◌, ◌≤◌, List, [], ◌∷◌, refl, arith}
+-- A local state contracts to one that asks, and a contraction without cost makes its expression smaller.
+use Rattle.std.proofs.Common.{◌≡◌, ◌⊎◌, inl, inr, ℕ, zero, suc, Bool, true, false, ◌<◌, ◌≤◌, List, [], ◌∷◌, refl, ap, sym, ◌∙◌, subst, Some, None, arith}
 use Rattle.std.specs.Prelude.{nat_lt}
 use Rattle.term_value.specs.Value.{Value, more, none}
 use Rattle.term_value.specs.Result.{Stop, Raise, Limit}
 use Rattle.term_value.specs.Tree.{Tree, Clauses, Module}
 use Rattle.term_value.specs.Match.{Picked, Body, NoClause, PickLimit, picked}
 use Rattle.term_value.specs.Step.{World, setting, Step, Ready, Goes, Falls, Asks, Looks, step}
-use Rattle.term_value.specs.Local.{Local, Course, At, Fell, world, Seen, Takes, NoMessage, SeenLimit, kept_before, takes, looked, charged, Next, On, Asking, ForMore, Done, Raised, is_normal, raised_where, ended, if_left, of_seen, of_step, of_course, next_of, size_of, size_of_clauses, size_of_course, Outcome, Unfinished, on_if, onward, walk, outcome_in}
-use Rattle.term_value.specs.Laws.{Finished, EachAsks}
+use Rattle.term_value.specs.Local.{Local, Course, At, Fell, world, Seen, Takes, NoMessage, SeenLimit, kept_before, takes, looked, charged, Next, On, Asking, ForMore, Done, Raised, is_normal, raised_where, ended, if_left, of_seen, of_step, of_course, next_of, size_of, size_of_clauses, size_of_course, Outcome, Unfinished, on_if, onward, walk, outcome_in, ask_of, Contracts}
+use Rattle.term_value.specs.Laws.{asked, LeadsTo, EachAsks, FreeShrinks}
 use Rattle.term_value.proofs.Smaller.{AtMost, picked_small}
 use Rattle.term_value.proofs.Shrinks.{Shrinks, step_shrinks}
 
@@ -78,31 +78,56 @@ course_advances : (code : Module) (l : Local) (c : Course) → Advances l.left (
 course_advances code l (At t) = step_advances code l (size_of t) (step (world code l) t) (step_shrinks (world code l) t)
 course_advances code l (Fell stop) = ended_advances l.left 0 stop
 
--- the states that go on are finished where those with fewer reductions and those with a smaller expression are
-on_finishes : (b : Bool) (same less : Local → Outcome) (k : Local) → (b ≡ true → Finished (less k)) → (b ≡ false → Finished (same k)) → Finished (on_if b same less k)
-on_finishes true same less k h g = h refl
-on_finishes false same less k h g = g refl
+pub free_shrinks : FreeShrinks
+free_shrinks code l k goes same = elim (subst (Advances l.left (size_of_course l.course)) goes (course_advances code l l.course)) [ inl lt ↦ absurd (omega (arith, lt, same)) | inr s ↦ s.1 ]
 
-onward_finishes : (same less : Local → Outcome) (left size : ℕ) (next : Next) → Advances left size next
-    → ((k : Local) → k.left < left → Finished (less k)) → ((k : Local) → k.left ≡ left → size_of_course k.course < size → Finished (same k)) → Finished (onward same less left next)
-onward_finishes same less left size (On k) a h g = on_finishes (nat_lt k.left left) same less k
+-- a state that contracts to another comes to what that comes to
+comes_on : (code : Module) (l k : Local) (o : Outcome) → next_of code l ≡ On k → LeadsTo code k o → LeadsTo code l o
+comes_on code l k o goes c = (suc c.0, c.1, (k, goes, c.2), c.3)
+
+-- the state that goes on comes to an ask where those with fewer reductions and those with a smaller expression do
+on_comes : (code : Module) (b : Bool) (same less : Local → Outcome) (k : Local) → (b ≡ true → LeadsTo code k (less k)) → (b ≡ false → LeadsTo code k (same k)) → LeadsTo code k (on_if b same less k)
+on_comes code true same less k h g = h refl
+on_comes code false same less k h g = g refl
+
+onward_comes : (code : Module) (same less : Local → Outcome) (l : Local) (size : ℕ) (next : Next) → next_of code l ≡ next → Advances l.left size next
+    → ((k : Local) → k.left < l.left → LeadsTo code k (less k)) → ((k : Local) → k.left ≡ l.left → size_of_course k.course < size → LeadsTo code k (same k)) → LeadsTo code l (onward same less l.left next)
+onward_comes code same less l size (On k) goes a h g = comes_on code l k _ goes (on_comes code (nat_lt k.left l.left) same less k
     (λ e. h k (grind (arith, e)))
-    (λ e. elim a [ inl lt ↦ absurd (grind (arith, e, lt)) | inr s ↦ g k s.0 s.1 ])
-onward_finishes same less left size (Asking ask next) a h g = tt
-onward_finishes same less left size (ForMore k) a h g = tt
-onward_finishes same less left size Done a h g = tt
-onward_finishes same less left size (Raised reason) a h g = tt
+    (λ e. elim a [ inl lt ↦ absurd (grind (arith, e, lt)) | inr s ↦ g k s.0 s.1 ]))
+onward_comes code same less l size (Asking ask next) goes a h g = (0, l, refl, ap asked goes)
+onward_comes code same less l size (ForMore k) goes a h g = (0, l, refl, ap asked goes)
+onward_comes code same less l size Done goes a h g = (0, l, refl, ap asked goes)
+onward_comes code same less l size (Raised reason) goes a h g = (0, l, refl, ap asked goes)
 
-walk_finishes : (code : Module) (less : Local → Outcome) (left n : ℕ) → ((k : Local) → k.left < left → Finished (less k))
-    → (l : Local) → l.left ≡ left → size_of_course l.course ≤ n → Finished (walk code less n l)
-walk_finishes code less left zero h l e le = onward_finishes (λ k. Unfinished) less l.left (size_of_course l.course) (next_of code l) (course_advances code l l.course)
+walk_comes : (code : Module) (less : Local → Outcome) (left n : ℕ) → ((k : Local) → k.left < left → LeadsTo code k (less k))
+    → (l : Local) → l.left ≡ left → size_of_course l.course ≤ n → LeadsTo code l (walk code less n l)
+walk_comes code less left zero h l e le = onward_comes code (λ k. Unfinished) less l (size_of_course l.course) (next_of code l) refl (course_advances code l l.course)
     (λ k lt. h k (omega (arith, lt, e))) (λ k same lt. absurd (omega (arith, le, lt)))
-walk_finishes code less left (suc n) h l e le = onward_finishes (walk code less n) less l.left (size_of_course l.course) (next_of code l) (course_advances code l l.course)
-    (λ k lt. h k (omega (arith, lt, e))) (λ k same lt. walk_finishes code less left n h k (omega (arith, same, e)) (omega (arith, le, lt)))
+walk_comes code less left (suc n) h l e le = onward_comes code (walk code less n) less l (size_of_course l.course) (next_of code l) refl (course_advances code l l.course)
+    (λ k lt. h k (omega (arith, lt, e))) (λ k same lt. walk_comes code less left n h k (omega (arith, same, e)) (omega (arith, le, lt)))
 
-in_finishes : (code : Module) (n : ℕ) (l : Local) → l.left ≤ n → Finished (outcome_in code n l)
-in_finishes code zero l le = walk_finishes code (λ k. Unfinished) l.left (size_of_course l.course) (λ k lt. absurd (omega (arith, le, lt))) l refl (omega arith)
-in_finishes code (suc n) l le = walk_finishes code (outcome_in code n) l.left (size_of_course l.course) (λ k lt. in_finishes code n k (omega (arith, le, lt))) l refl (omega arith)
+in_comes : (code : Module) (n : ℕ) (l : Local) → l.left ≤ n → LeadsTo code l (outcome_in code n l)
+in_comes code zero l le = walk_comes code (λ k. Unfinished) l.left (size_of_course l.course) (λ k lt. absurd (omega (arith, le, lt))) l refl (omega arith)
+in_comes code (suc n) l le = walk_comes code (outcome_in code n) l.left (size_of_course l.course) (λ k lt. in_comes code n k (omega (arith, le, lt))) l refl (omega arith)
+
+-- ---- No other ask
+
+same_some : (o p : Outcome) → Some o ≡ Some p → o ≡ p
+same_some o p e = cc e
+
+same_on : (k j : Local) → On k ≡ On j → k ≡ j
+same_on k j e = cc e
+
+one_asks : (code : Module) (o p : Outcome) (n m : ℕ) (l k j : Local) → Contracts code l n k → asked (next_of code k) ≡ Some o → Contracts code l m j → asked (next_of code j) ≡ Some p → o ≡ p
+one_asks code o p zero zero l k j c e d f = same_some o p (sym e ∙ ap (λ i. asked (next_of code i)) (sym c ∙ d) ∙ f)
+one_asks code o p zero (suc m) l k j c e d f = let h : None ≡ Some o = sym (ap asked d.1) ∙ ap (λ i. asked (next_of code i)) c ∙ e in cc h
+one_asks code o p (suc n) zero l k j c e d f = let h : None ≡ Some p = sym (ap asked c.1) ∙ ap (λ i. asked (next_of code i)) d ∙ f in cc h
+one_asks code o p (suc n) (suc m) l k j c e d f =
+    let same : c.0 ≡ d.0 = same_on c.0 d.0 (sym c.1 ∙ d.1) in
+    one_asks code o p n m c.0 k j c.2 e (subst (λ i. Contracts code i m j) (sym same) d.2) f
 
 pub each_asks : EachAsks
-each_asks code l = in_finishes code l.left l (omega arith)
+each_asks code l =
+    let leads = in_comes code l.left l (omega arith) in
+    (leads, λ o other. one_asks code o (ask_of code l) other.0 leads.0 l other.1 leads.1 other.2 other.3 leads.2 leads.3)

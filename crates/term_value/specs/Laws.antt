@@ -1,5 +1,5 @@
 -- Laws of encoding and decoding, of local states, of orders, of reports and of the order of terms (this project's own).
-use Rattle.std.specs.Prelude.{◌≡◌, ℕ, ℤ, pos, ◌+◌, ◌*◌, ◌<◌, ◌≤◌, Bool, length, List, [], ◌∷◌, ◌++◌, codes, All, IsTrue, Some, None, encode_utf8_all}
+use Rattle.std.specs.Prelude.{◌≡◌, ℕ, ℤ, pos, ◌+◌, ◌*◌, ◌<◌, ◌≤◌, Bool, length, List, [], ◌∷◌, ◌++◌, codes, All, IsTrue, Option, Some, None, encode_utf8_all}
 use Rattle.std.specs.Ordering.{nat_cmp}
 use Rattle.std.specs.Cmp.{IsTotalOrder}
 use Rattle.std.specs.Cmp.Lexicographic.{slice_cmp}
@@ -21,7 +21,7 @@ use Rattle.term_value.specs.Characters.{spelling}
 use Rattle.term_value.specs.Encode.{Bits, encoded}
 use Rattle.term_value.specs.Decode.{Cut, taken}
 use Rattle.term_value.specs.Tree.{Variable, Val, and, end, Module}
-use Rattle.term_value.specs.Local.{Local, Outcome, Wants, WantsMore, EndsDone, EndsRaised, Unfinished, ask_of}
+use Rattle.term_value.specs.Local.{Local, Next, On, Asking, ForMore, Done, Raised, next_of, Contracts, size_of_course, Outcome, Wants, WantsMore, EndsDone, EndsRaised, ask_of}
 use Rattle.term_value.specs.Machine.{Machine, Legal, IsLegal, IsComplete, after, process_bound, start_of}
 use Rattle.term_value.specs.Orders.{Spells, IsInRange, HasNoLineFeed, entry_text}
 use Rattle.term_value.specs.Outcomes.{IsOutcome, outcome_text}
@@ -29,16 +29,25 @@ use Rattle.term_value.specs.Reports.{report}
 use Rattle.term_value.specs.declared.entry.Entry.{Entry}
 use Rattle.term_value.specs.declared.outcome.Outcome.{Outcome as RunOutcome}
 
-abbrev pub Finished : Outcome → Type 0
-Finished (Wants ask next) = Unit {0}
-Finished (WantsMore l) = Unit {0}
-Finished EndsDone = Unit {0}
-Finished (EndsRaised reason) = Unit {0}
-Finished Unfinished = ⊥
+-- what a state asks for, where it doesn't contract
+abbrev pub asked : Next → Option Outcome
+asked (On l) = None
+asked (Asking ask next) = Some (Wants ask next)
+asked (ForMore l) = Some (WantsMore l)
+asked Done = Some EndsDone
+asked (Raised reason) = Some (EndsRaised reason)
 
--- each local state comes to an ask: between two costs each contraction makes the expression smaller
+-- a state contracts, in some number of steps, to one that asks for this
+abbrev pub LeadsTo : Module → Local → Outcome → Type 0
+LeadsTo code l outcome = (n : ℕ) × (k : Local) × Contracts code l n k × (asked (next_of code k) ≡ Some outcome)
+
+-- each local state contracts to one that asks, and to none that asks for anything else
 abbrev pub EachAsks : Type 0
-EachAsks = (code : Module) (l : Local) → Finished (ask_of code l)
+EachAsks = (code : Module) (l : Local) → LeadsTo code l (ask_of code l) × ((outcome : Outcome) → LeadsTo code l outcome → outcome ≡ ask_of code l)
+
+-- a contraction without cost makes the expression smaller
+abbrev pub FreeShrinks : Type 0
+FreeShrinks = (code : Module) (l k : Local) → next_of code l ≡ On k → k.left ≡ l.left → size_of_course k.course < size_of_course l.course
 
 -- no entry is legal after a complete order
 abbrev pub CompleteIsLast : Type 0

@@ -1,9 +1,10 @@
 ghost use Rattle.std.specs.Prelude.{◌≡◌, ◌≤◌, ◌*◌, ◌<◌, length, slice_index_or, []};
 
 use crate::{
-    Arith, Items, Look, Term, arith, character_reads_back, compare, complete_is_last, depth,
-    each_asks, entry_is_line, equal_is_same, integer_reads_back, legal_is_short,
-    names_by_characters, one_order, order_is_total, outcome_reports, show, weight,
+    Arith, Items, Look, Term, arith, calls_are_read, character_reads_back, compare,
+    complete_is_last, depth, each_asks, entry_is_line, equal_is_same, free_shrinks,
+    guards_contract, integer_reads_back, legal_is_short, names_by_characters, one_order,
+    order_is_total, outcome_reports, show, weight,
 };
 use bits_value::{Bits, Frozen};
 use erl_syntax::{Listed, Op, Text};
@@ -226,6 +227,7 @@ fn laws_are_calls() {
     character_reads_back();
     legal_is_short();
     each_asks();
+    free_shrinks();
     complete_is_last();
     order_is_total();
     equal_is_same();
@@ -233,4 +235,6 @@ fn laws_are_calls() {
     one_order();
     entry_is_line();
     outcome_reports();
+    calls_are_read();
+    guards_contract();
 }
