@@ -6,8 +6,8 @@ use Rattle.term_value.specs.Result.{Stop, Raise, Limit}
 use Rattle.term_value.specs.Tree.{Tree, Clauses, Module}
 use Rattle.term_value.specs.Match.{Picked, Body, NoClause, PickLimit, picked}
 use Rattle.term_value.specs.Step.{World, setting, Step, Ready, Goes, Falls, Asks, Looks, step}
-use Rattle.term_value.specs.Local.{Local, Course, At, Fell, world, Seen, Takes, NoMessage, SeenLimit, kept_before, takes, looked, charged, Next, On, Asking, ForMore, Done, Raised, is_normal, raised_where, ended, if_left, of_seen, of_step, of_course, next_of, size_of, size_of_clauses, size_of_course, Outcome, Unfinished, on_if, onward, walk, outcome_in}
-use Rattle.term_value.specs.Laws.{asked, ComesTo, EachAsks, FreeShrinks}
+use Rattle.term_value.specs.Local.{Local, Course, At, Fell, world, Seen, Takes, NoMessage, SeenLimit, kept_before, takes, looked, charged, Next, On, Asking, ForMore, Done, Raised, is_normal, raised_where, ended, if_left, of_seen, of_step, of_course, next_of, size_of, size_of_clauses, size_of_course, Outcome, Unfinished, asked, on_if, onward, walk, outcome_in}
+use Rattle.term_value.specs.Laws.{ComesTo, EachAsks, FreeShrinks}
 use Rattle.term_value.proofs.Smaller.{AtMost, picked_small}
 use Rattle.term_value.proofs.Shrinks.{Shrinks, step_shrinks}
 

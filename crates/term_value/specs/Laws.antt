@@ -1,5 +1,5 @@
 -- Laws of encoding and decoding, of local states, of orders, of reports and of the order of terms.
-use Rattle.std.specs.Prelude.{◌≡◌, ℕ, ℤ, pos, ◌+◌, ◌*◌, ◌<◌, ◌≤◌, Bool, length, List, [], ◌∷◌, ◌++◌, codes, All, IsTrue, Option, Some, None}
+use Rattle.std.specs.Prelude.{◌≡◌, ℕ, ℤ, pos, ◌+◌, ◌*◌, ◌<◌, ◌≤◌, Bool, length, List, [], ◌∷◌, ◌++◌, codes, All, IsTrue, Some, None}
 use Rattle.std.specs.List.{flat_map}
 use Rattle.std.specs.Ordering.{nat_cmp}
 use Rattle.std.specs.Cmp.{IsTotalOrder}
@@ -19,21 +19,13 @@ use Rattle.term_value.specs.Characters.{spelling}
 use Rattle.term_value.specs.Encode.{Bits, encoded}
 use Rattle.term_value.specs.Decode.{Cut, taken}
 use Rattle.term_value.specs.Tree.{Variable, Val, and, end, Module}
-use Rattle.term_value.specs.Local.{Local, Next, On, Asking, ForMore, Done, Raised, next_of, Contracts, size_of_course, Outcome, Wants, WantsMore, EndsDone, EndsRaised, ask_of}
+use Rattle.term_value.specs.Local.{Local, On, next_of, Contracts, size_of_course, Outcome, asked, ask_of}
 use Rattle.term_value.specs.Machine.{Machine, Legal, IsLegal, IsComplete, after, process_bound, start_of}
 use Rattle.term_value.specs.Orders.{Spells, IsInRange, HasNoLineFeed, entry_text}
 use Rattle.term_value.specs.Outcomes.{IsOutcome, outcome_text}
 use Rattle.term_value.specs.Reports.{report}
 use Rattle.term_value.specs.declared.entry.Entry.{Entry}
 use Rattle.term_value.specs.declared.outcome.Outcome.{Outcome as RunOutcome}
-
--- what a state asks for, where it doesn't contract
-abbrev pub asked : Next → Option Outcome
-asked (On l) = None
-asked (Asking ask next) = Some (Wants ask next)
-asked (ForMore l) = Some (WantsMore l)
-asked Done = Some EndsDone
-asked (Raised reason) = Some (EndsRaised reason)
 
 -- a state contracts, in some number of steps, to one that asks for this
 abbrev pub ComesTo : Module → Local → Outcome → Type 0

@@ -1,6 +1,6 @@
 -- The local state of a process, what it costs to go on, and the one thing that it asks for next (Erlang Reference Manual,
 -- "Processes", "Receive"; what a reduction is, is this project's own).
-use Rattle.std.specs.Prelude.{◌≡◌, ℕ, zero, suc, ◌+◌, ◌-◌, Bool, true, false, List, [], ◌∷◌, nat_eq, nat_lt}
+use Rattle.std.specs.Prelude.{◌≡◌, ℕ, zero, suc, ◌+◌, ◌-◌, Bool, true, false, List, [], ◌∷◌, Option, Some, None, unwrap_or, nat_eq, nat_lt}
 use Rattle.term_value.specs.Value.{Value, VAtom, none, more}
 use Rattle.erl_syntax.specs.Atoms.{a_normal, a_system_limit, a_reductions}
 use Rattle.term_value.specs.Result.{Stop, Raise, Limit, raise}
@@ -154,17 +154,22 @@ pub data Outcome : Type 0 where
   -- never, since between two costs each contraction makes the expression smaller
   Unfinished : Outcome
 
+-- what a state asks for, where it doesn't contract
+abbrev pub asked : Next → Option Outcome
+asked (On l) = None
+asked (Asking ask next) = Some (Wants ask next)
+asked (ForMore l) = Some (WantsMore l)
+asked Done = Some EndsDone
+asked (Raised reason) = Some (EndsRaised reason)
+
 abbrev pub on_if : Bool → (Local → Outcome) → (Local → Outcome) → Local → Outcome
 on_if true same less l = less l
 on_if false same less l = same l
 
--- as it goes on where the contraction cost nothing, and where it cost something
+-- as it goes on where the contraction cost nothing, and where it cost something; else what it asks for
 abbrev pub onward : (Local → Outcome) → (Local → Outcome) → ℕ → Next → Outcome
 onward same less left (On l) = on_if (nat_lt l.left left) same less l
-onward same less left (Asking ask next) = Wants ask next
-onward same less left (ForMore l) = WantsMore l
-onward same less left Done = EndsDone
-onward same less left (Raised reason) = EndsRaised reason
+onward same less left next = unwrap_or (asked next) Unfinished
 
 -- at most so many contractions without a cost
 abbrev pub walk : Module → (Local → Outcome) → ℕ → Local → Outcome
