@@ -1,6 +1,6 @@
 -- A module of today's form as its syntax tree and as its tokens (this project's own part of the Erlang Reference Manual's
 -- "Modules", "Bit Syntax Expressions" and "Expressions").
-use Rattle.std.specs.Prelude.{◌≡◌, ℕ, pos, List, [], ◌∷◌, ◌++◌, map, codes, decimal, All, Option, Some, None}
+use Rattle.std.specs.Prelude.{◌≡◌, ℕ, pos, List, [], ◌∷◌, ◌++◌, map, codes, decimal, Option, Some, None}
 use Rattle.std.specs.List.{flat_map}
 use Rattle.erl_syntax.specs.Checking.{Spelled, RisingBy}
 use Rattle.erl_syntax.specs.Tokens.{Lexes, token_text}
