@@ -4,8 +4,7 @@ use Rattle.std.specs.List.{flat_map}
 use Rattle.std.proofs.lemmas.List.{at_drop_more, at_drop_all}
 use Rattle.std.proofs.lemmas.List.Concat.{flat_map-cons}
 use Rattle.bits_value.specs.Number.{natural}
-use Rattle.term_value.specs.Texts.{joined, byte_texts, text, texts}
-use Rattle.term_value.specs.Value.{Value, row}
+use Rattle.term_value.specs.Texts.{joined, byte_texts}
 use Rattle.term_value.specs.Joining.{comma, after}
 
 joined-more : (t : List ℕ) (ts : List (List ℕ)) → joined (t ∷ ts) ≡ t ++ flat_map (λ text. 44 ∷ text) ts
@@ -36,25 +35,6 @@ byte_more bits n i h =
     ap (λ m. byte_texts m (drop (8 * i) bits)) a
     ∙ ap (λ l. decimal (natural (take 8 (drop (8 * i) bits))) ∷ byte_texts (n - (i + 1)) l) (drop-drop 8 (8 * i) bits ∙ ap (λ k. drop k bits) b)
 
-after-none : (before : ℕ) → after before [] ≡ []
-after-none zero = refl
-after-none (suc before) = refl
-
-module _ {X : Type 0} (names : ℕ → List ℕ) (f : X → Value) (xs : List X) where
-  -- one more item
-  pub item_more : (i : ℕ) (x : X) → i < length xs → x ≡ get_or xs i x
-      → texts names (row (map f (drop i xs))) ≡ text names (f x) ∷ texts names (row (map f (drop (i + 1) xs)))
-  item_more i x h e =
-      at_drop_more (λ l. texts names (row (map f l))) xs i x h
-      ∙ ap (λ y. text names (f y) ∷ texts names (row (map f (drop (i + 1) xs)))) (sym e)
-
-  -- behind the last item
-  pub items_end : (i opening closing : ℕ) (old opened line final : List ℕ) → length xs ≤ i → opened ≡ old ++ opening ∷ []
-      → line ++ after i (texts names (row (map f (drop i xs)))) ≡ opened ++ joined (texts names (row (map f xs))) → final ≡ line ++ closing ∷ []
-      → final ≡ old ++ (opening ∷ (joined (texts names (row (map f xs))) ++ closing ∷ []))
-  items_end i opening closing old opened line final h o e m =
-      let none : line ++ after i (texts names (row (map f (drop i xs)))) ≡ line =
-      at_drop_all (λ l. line ++ after i (texts names (row (map f l)))) xs i h ∙ ap (λ l. line ++ l) (after-none i) ∙ append-nil line in
-      m ∙ ap (λ l. l ++ closing ∷ []) (sym none ∙ e ∙ ap (λ l. l ++ joined (texts names (row (map f xs)))) o)
-      ∙ append_assoc (old ++ opening ∷ []) (joined (texts names (row (map f xs)))) (closing ∷ [])
-      ∙ append_assoc old (opening ∷ []) (joined (texts names (row (map f xs))) ++ closing ∷ [])
+-- that more than one stand before is as good as one
+pub after_one : (before : ℕ) (ts : List (List ℕ)) → after (before + 1) ts ≡ after 1 ts
+after_one before ts = ap (λ k. after k ts) (add-one before)

@@ -1,10 +1,12 @@
 //! The order of terms.
 
-ghost use Rattle.std.specs.Prelude.{◌≡◌, ◌≤◌, All, map, List, Bool, ℕ};
-ghost use Rattle.term_value.specs.Value.{row, VTuple};
+ghost use Rattle.std.specs.Prelude.{◌≡◌, ◌≤◌, List, Bool, ℕ};
+ghost use Rattle.term_value.specs.Value.{VTuple};
 ghost use Rattle.term_value.specs.Order.{order, orders};
-ghost use Rattle.term_value.specs.Terms.{value_of, IsOver};
+ghost use Rattle.term_value.specs.Seen.{meanings, AreKnown};
+ghost use Rattle.term_value.specs.Terms.{value_of, row_of, row, IsOver};
 
+use crate::cells::Cells;
 use crate::look::Look;
 use crate::term::Term;
 use bits_value::order;
@@ -37,13 +39,13 @@ pub fn compare<R, K: Look<R>>(look: &K, left: &Term<R>, right: &Term<R>) -> Orde
             _ => Ordering::Less,
         },
         Term::Tuple(left) => match right {
-            Term::Tuple(right) => compare_tuples(look, left.items(), right.items()),
+            Term::Tuple(right) => compare_tuples(look, left.get().items(), right.get().items()),
             Term::List(_) => Ordering::Less,
             Term::Bits(_) => Ordering::Less,
             _ => Ordering::Greater,
         },
         Term::List(left) => match right {
-            Term::List(right) => compare_items(look, left.items(), right.items()),
+            Term::List(right) => compare_lists(look, left, right),
             Term::Bits(_) => Ordering::Less,
             _ => Ordering::Greater,
         },
@@ -56,10 +58,11 @@ pub fn compare<R, K: Look<R>>(look: &K, left: &Term<R>, right: &Term<R>) -> Orde
 
 // By the number of items, and then item by item.
 #[cycle(compare)]
+#[tactic(auto, using(crate::proofs::RowLemmas::row_length, crate::proofs::Measures::counts))]
 fn compare_tuples<R, K: Look<R>>(look: &K, left: &[Term<R>], right: &[Term<R>]) -> Ordering
-    requires left { All (IsOver (K.has look.now) (K.knows look.now)) left.now }
-    requires right { All (IsOver (K.has look.now) (K.knows look.now)) right.now }
-    ensures { result ≡ order (K.named look.now) (VTuple (row (map (value_of (K.shown look.now)) left.now))) (VTuple (row (map (value_of (K.shown look.now)) right.now))) }
+    requires left { AreKnown (K.has look.now) (K.knows look.now) (row left.now) }
+    requires right { AreKnown (K.has look.now) (K.knows look.now) (row right.now) }
+    ensures { result ≡ order (K.named look.now) (VTuple (meanings (K.shown look.now) (row left.now))) (VTuple (meanings (K.shown look.now) (row right.now))) }
 {
     match left.len().cmp(&right.len()) {
         Ordering::Equal => compare_items(look, left, right),
@@ -71,24 +74,55 @@ fn compare_tuples<R, K: Look<R>>(look: &K, left: &[Term<R>], right: &[Term<R>]) 
 // By the first items that differ, a prefix being smaller.
 #[cycle(compare)]
 fn compare_items<R, K: Look<R>>(look: &K, left: &[Term<R>], right: &[Term<R>]) -> Ordering
-    requires left { All (IsOver (K.has look.now) (K.knows look.now)) left.now }
-    requires right { All (IsOver (K.has look.now) (K.knows look.now)) right.now }
-    ensures { result ≡ orders (K.named look.now) (row (map (value_of (K.shown look.now)) left.now)) (row (map (value_of (K.shown look.now)) right.now)) }
+    requires left { AreKnown (K.has look.now) (K.knows look.now) (row left.now) }
+    requires right { AreKnown (K.has look.now) (K.knows look.now) (row right.now) }
+    ensures { result ≡ orders (K.named look.now) (meanings (K.shown look.now) (row left.now)) (meanings (K.shown look.now) (row right.now)) }
 {
-    let mut index = 0;
-    for item in left {
-        if index == right.len() {
+    let mut ours = left;
+    let mut theirs = right;
+    while let Some((mine, our_rest)) = ours.split_first() {
+        let Some((yours, their_rest)) = theirs.split_first() else {
             return Ordering::Greater;
-        }
-        match compare(look, item, &right[index]) {
-            Ordering::Equal => index += 1,
+        };
+        match compare(look, mine, yours) {
+            Ordering::Equal => {
+                ours = our_rest;
+                theirs = their_rest;
+            }
             Ordering::Less => return Ordering::Less,
             Ordering::Greater => return Ordering::Greater,
         }
     }
-    if index < right.len() {
-        Ordering::Less
-    } else {
-        Ordering::Equal
+    match theirs.split_first() {
+        None => Ordering::Equal,
+        Some(_) => Ordering::Less,
+    }
+}
+
+// By the first items that differ, a prefix being smaller.
+#[cycle(compare)]
+fn compare_lists<R, K: Look<R>>(look: &K, left: &Cells<R>, right: &Cells<R>) -> Ordering
+    requires left { AreKnown (K.has look.now) (K.knows look.now) (row_of left.now) }
+    requires right { AreKnown (K.has look.now) (K.knows look.now) (row_of right.now) }
+    ensures { result ≡ orders (K.named look.now) (meanings (K.shown look.now) (row_of left.now)) (meanings (K.shown look.now) (row_of right.now)) }
+{
+    let mut ours = left;
+    let mut theirs = right;
+    while let Some((mine, our_rest)) = ours.split() {
+        let Some((yours, their_rest)) = theirs.split() else {
+            return Ordering::Greater;
+        };
+        match compare(look, mine, yours) {
+            Ordering::Equal => {
+                ours = our_rest;
+                theirs = their_rest;
+            }
+            Ordering::Less => return Ordering::Less,
+            Ordering::Greater => return Ordering::Greater,
+        }
+    }
+    match theirs {
+        Cells::Empty => Ordering::Equal,
+        Cells::More(_) => Ordering::Less,
     }
 }

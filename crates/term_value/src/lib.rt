@@ -2,11 +2,13 @@
 #![tactic(auto)]
 
 mod arithmetic;
+mod cells;
 mod comparison;
 mod computed;
 mod entry;
 mod laws;
 mod look;
+mod made;
 mod measure;
 mod names;
 mod outcome;
@@ -17,8 +19,10 @@ mod showing;
 mod term;
 #[cfg(test)]
 mod tests;
+mod tuple;
 
 pub use arithmetic::arith;
+pub use cells::{Cells, Link};
 pub use comparison::compare;
 pub use computed::Arith;
 pub use entry::Entry;
@@ -28,7 +32,9 @@ pub use laws::{
     names_by_characters, one_order, order_is_total, outcome_reports,
 };
 pub use look::Look;
+pub use made::{cons, list_of, tuple_of};
 pub use measure::{depth, weight};
 pub use outcome::Outcome;
 pub use showing::show;
-pub use term::{Items, Term};
+pub use term::Term;
+pub use tuple::Items;

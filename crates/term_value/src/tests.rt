@@ -1,14 +1,15 @@
 ghost use Rattle.std.specs.Prelude.{◌≡◌, ◌≤◌, ◌*◌, ◌<◌, length, slice_index_or, []};
 
 use crate::{
-    Arith, Items, Look, Term, arith, calls_are_read, character_reads_back, compare,
+    Arith, Cells, Look, Term, arith, calls_are_read, character_reads_back, compare,
     complete_is_last, depth, each_asks, entry_is_line, equal_is_same, free_shrinks,
-    guards_contract, integer_reads_back, legal_is_short, names_by_characters, one_order,
-    order_is_total, outcome_reports, show, weight,
+    guards_contract, integer_reads_back, legal_is_short, list_of, names_by_characters, one_order,
+    order_is_total, outcome_reports, show, tuple_of, weight,
 };
 use bits_value::{Bits, Frozen};
-use erl_syntax::{Listed, Op, Text};
+use erl_syntax::{Op, Text};
 use std::alloc::{AllocError, Global};
+use std::cmp::Ordering;
 use std::test::Fail;
 
 /// Atoms by a table of names, and bitstrings that are their own references.
@@ -44,6 +45,14 @@ fn bits(alloc: Global, bytes: &[u8], len: u32) -> Result<Term<Frozen>, AllocErro
     Ok(Term::Bits(Frozen::of(bytes.to_vec(alloc)?, len)))
 }
 
+fn tuple(alloc: Global, items: Vec<Term<Frozen>>) -> Result<Term<Frozen>, AllocError> {
+    Ok(tuple_of(alloc, items)?.unwrap_or(Term::List(Cells::Empty)))
+}
+
+fn listed(alloc: Global, items: Vec<Term<Frozen>>) -> Result<Term<Frozen>, AllocError> {
+    Ok(list_of(alloc, items)?.unwrap_or(Term::List(Cells::Empty)))
+}
+
 fn text(bytes: &[u8], alloc: Global) -> Result<Text, AllocError> {
     Ok(Text::of(bytes.to_vec(alloc)?))
 }
@@ -58,7 +67,7 @@ fn no_names(alloc: Global) -> Names {
 fn integers_and_pids_have_a_text(rt: HostRuntime) -> Result<(), Fail> {
     let alloc = rt.alloc();
     let items = vec![in alloc; Term::Int(i128::MIN), Term::Int(0), Term::Pid(3)]?;
-    let term = Term::List(Listed::of(items));
+    let term = listed(alloc, items)?;
     let shown = show(alloc, &no_names(alloc), &term)?;
     assert_eq!(rt;
         shown.bytes(),
@@ -70,13 +79,9 @@ fn integers_and_pids_have_a_text(rt: HostRuntime) -> Result<(), Fail> {
 #[test]
 fn tuples_and_lists_stand_in_each_other(rt: HostRuntime) -> Result<(), Fail> {
     let alloc = rt.alloc();
-    let inner = Term::List(Listed::of(vec![in alloc; Term::Tuple(Listed::of(Vec::new(alloc)))]?));
-    let items = vec![in alloc;
-        inner,
-        Term::List(Listed::of(Vec::new(alloc))),
-        Term::Int(7),
-    ]?;
-    let term = Term::Tuple(Listed::of(items));
+    let inner = listed(alloc, vec![in alloc; tuple(alloc, Vec::new(alloc))?]?)?;
+    let items = vec![in alloc; inner, Term::List(Cells::Empty), Term::Int(7)]?;
+    let term = tuple(alloc, items)?;
     let shown = show(alloc, &no_names(alloc), &term)?;
     assert_eq!(rt; shown.bytes(), b"{[{}],[],7}".as_slice());
     Ok(())
@@ -92,7 +97,7 @@ fn atoms_are_quoted_where_they_must(rt: HostRuntime) -> Result<(), Fail> {
         text(b"A", alloc)?,
     ]?;
     let items = vec![in alloc; Term::Atom(0), Term::Atom(1), Term::Atom(2), Term::Atom(3)]?;
-    let shown = show(alloc, &Names { names }, &Term::List(Listed::of(items)))?;
+    let shown = show(alloc, &Names { names }, &listed(alloc, items)?)?;
     assert_eq!(rt; shown.bytes(), b"[a@B_1,'receive','','A']".as_slice());
     Ok(())
 }
@@ -106,7 +111,7 @@ fn characters_of_atoms_are_escaped_where_they_must(rt: HostRuntime) -> Result<()
         text(&[0xC5, 0xBC], alloc)?,
     ]?;
     let items = vec![in alloc; Term::Atom(0), Term::Atom(1), Term::Atom(2)]?;
-    let shown = show(alloc, &Names { names }, &Term::List(Listed::of(items)))?;
+    let shown = show(alloc, &Names { names }, &listed(alloc, items)?)?;
     assert_eq!(rt;
         shown.bytes(),
         b"['it\\'s \\\\','\\x{A}\\x{1F}\\x{7F}','\xC5\xBC']".as_slice()
@@ -123,7 +128,7 @@ fn bitstrings_show_their_bytes_and_last_bits(rt: HostRuntime) -> Result<(), Fail
         bits(alloc, &[0xA0], 3)?,
         bits(alloc, &[7, 0x80], 9)?,
     ]?;
-    let shown = show(alloc, &no_names(alloc), &Term::List(Listed::of(items)))?;
+    let shown = show(alloc, &no_names(alloc), &listed(alloc, items)?)?;
     assert_eq!(rt;
         shown.bytes(),
         b"[<<>>,<<1,255>>,<<5:3>>,<<7,1:1>>]".as_slice()
@@ -131,20 +136,20 @@ fn bitstrings_show_their_bytes_and_last_bits(rt: HostRuntime) -> Result<(), Fail
     Ok(())
 }
 
-fn list(alloc: Global, first: i128, second: i128) -> Result<Items<Frozen>, AllocError> {
-    Ok(Listed::of(vec![in alloc; Term::Int(first), Term::Int(second)]?))
+fn two(alloc: Global, first: i128, second: i128) -> Result<Vec<Term<Frozen>>, AllocError> {
+    Ok(vec![in alloc; Term::Int(first), Term::Int(second)]?)
 }
 
-fn one(alloc: Global, first: i128) -> Result<Items<Frozen>, AllocError> {
-    Ok(Listed::of(vec![in alloc; Term::Int(first)]?))
+fn one(alloc: Global, first: i128) -> Result<Vec<Term<Frozen>>, AllocError> {
+    Ok(vec![in alloc; Term::Int(first)]?)
 }
 
 fn push_tuples_and_lists(terms: &mut Vec<Term<Frozen>>, alloc: Global) -> Result<(), AllocError> {
-    terms.push(Term::Tuple(one(alloc, 9)?))?;
-    terms.push(Term::Tuple(list(alloc, 0, 0)?))?;
-    terms.push(Term::List(one(alloc, 1)?))?;
-    terms.push(Term::List(list(alloc, 1, 2)?))?;
-    terms.push(Term::List(one(alloc, 2)?))?;
+    terms.push(tuple(alloc, one(alloc, 9)?)?)?;
+    terms.push(tuple(alloc, two(alloc, 0, 0)?)?)?;
+    terms.push(listed(alloc, one(alloc, 1)?)?)?;
+    terms.push(listed(alloc, two(alloc, 1, 2)?)?)?;
+    terms.push(listed(alloc, one(alloc, 2)?)?)?;
     Ok(())
 }
 
@@ -171,11 +176,15 @@ fn sorted(alloc: Global) -> Result<Vec<Term<Frozen>>, AllocError> {
     Ok(terms)
 }
 
+fn ordered(names: &Names, left: &Term<Frozen>, right: &Term<Frozen>) -> Ordering {
+    compare(names, left, right)
+}
+
 /// How the value at this place compares with each.
 fn compare_with_each(names: &Names, terms: &[Term<Frozen>], place: usize) -> bool
     requires { place < length terms.now }
 {
-    terms.iter().enumerate().all(|(index, term)| compare(names, &terms[place], term)
+    terms.iter().enumerate().all(|(index, term)| ordered(names, &terms[place], term)
         == place.cmp(&index))
 }
 
@@ -214,8 +223,8 @@ fn shifts_have_bounds(rt: HostRuntime) {
 #[test]
 fn terms_have_a_weight_and_a_depth(rt: HostRuntime) -> Result<(), Fail> {
     let alloc = rt.alloc();
-    let items = vec![in alloc; Term::List(list(alloc, 1, 2)?), Term::Int(3)]?;
-    let term = Term::Tuple(Listed::of(items));
+    let items = vec![in alloc; listed(alloc, two(alloc, 1, 2)?)?, Term::Int(3)]?;
+    let term = tuple(alloc, items)?;
     assert_eq!(rt; weight(&term), 5);
     assert_eq!(rt; depth(&term), 3);
     Ok(())
