@@ -1,0 +1,2 @@
+pub mod RoomBits
+pub mod Takes
