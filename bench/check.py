@@ -57,6 +57,28 @@ def variables(size):
     return repeated(size, HEAD + "main() -> V = 1", lambda n: f", V{n} = " + (f"V{n - 1}" if n else "V"), ".\n")
 
 
+# As deep as operators, cases, and tuples of a pattern may stand in one another here.
+OPERATORS = 250
+CASES = 63
+TUPLES = 62
+
+
+def behind_operators(size):
+    """Names that get their values behind nested operators, each level of which has them all."""
+    return repeated(size, HEAD + "main() -> " + "- " * OPERATORS + "case 1 of 1 -> 1", lambda n: f", N{n} = {n}", " end.\n")
+
+
+def in_cases(size):
+    """Names that get their values inside nested cases."""
+    front = "".join(f"case {n} of C{n} -> " for n in range(CASES))
+    return repeated(size, HEAD + "main() -> " + front + "1", lambda n: f", N{n} = {n}", " end" * CASES + ".\n")
+
+
+def in_tuples(size):
+    """Names inside nested tuples of one pattern."""
+    return repeated(size, HEAD + "main() -> ok.\nf(" + "{" * TUPLES + "N", lambda n: f", N{n}", "}" * TUPLES + ") -> ok.\n")
+
+
 KINDS = {
     "functions that call each other": functions,
     "one list of many expressions": listed,
@@ -65,6 +87,9 @@ KINDS = {
     "one string in many pieces": strings,
     "long comments": comments,
     "one function with many variables": variables,
+    "names behind nested operators": behind_operators,
+    "names inside nested cases": in_cases,
+    "names inside nested tuples of a pattern": in_tuples,
 }
 
 
