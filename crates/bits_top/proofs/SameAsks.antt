@@ -9,7 +9,7 @@ use Rattle.term_value.specs.Tree.{Tree, Val, First, Then, no_pattern}
 use Rattle.term_value.specs.PutIn.{value_in, put_in}
 use Rattle.term_value.specs.Read.{body}
 use Rattle.term_value.specs.Step.{Show}
-use Rattle.term_value.specs.Local.{Local, At, Outcome, Wants, EndsDone, EndsRaised}
+use Rattle.term_value.specs.Local.{Local, At, NextAsk, Wants, EndsDone, EndsRaised}
 use Rattle.first_form.specs.Form.{IsMatch, bound_by, fields_bits}
 use Rattle.bits_top.specs.Runs.{bound_value, parts_as_bits, decoded, known}
 use Rattle.first_form.specs.Whole.{line}
@@ -51,7 +51,7 @@ abbrev pub resting : (ℕ → ℕ) → List Binding → List Item → Value → 
 resting number bs [] answer = Val answer
 resting number bs (item ∷ items) answer = First (Val answer) (Then no_pattern (open_body number bs (item ∷ items)))
 
-abbrev pub whole_of : (ℕ → ℕ) → Due → Outcome
+abbrev pub whole_of : (ℕ → ℕ) → Due → NextAsk
 whole_of number finished = EndsDone
 whole_of number exhausted = EndsRaised (VAtom a_reductions)
 whole_of number (displaying n bs items left) = Wants (Show (VInt n)) (λ answer. standing left (resting number bs items answer))

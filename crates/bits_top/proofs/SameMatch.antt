@@ -1,5 +1,6 @@
 -- Bits built and matched in a module of today's form: the same in the whole language.
 use Rattle.std.proofs.Common.{◌≡◌, ℕ, pos, suc, ◌+◌, ◌*◌, ◌≤◌, List, [], ◌∷◌, ◌++◌, length, take, drop, map, Bool, true, false, cond, nat_eq, nat_le, Option, Some, None, All, refl, sym, ap, subst, ◌∙◌, arith, append_assoc, append-nil, length-append, length-drop}
+use Rattle.std.specs.Prelude.{option_map}
 use Rattle.std.proofs.lemmas.Bool.Decides.{nat_tests}
 use Rattle.std.proofs.lemmas.List.{length-take-le}
 use Rattle.std.proofs.lemmas.List.Concat.{flat_map-cons}
@@ -7,7 +8,6 @@ use Rattle.std.proofs.lemmas.List.Sums.{sum_by-cons}
 use Rattle.std.specs.List.{Contains}
 use Rattle.std.proofs.lemmas.List.Elements.{All-head, All-tail, Contains-append_left, Contains-append_right}
 use Rattle.bits_value.specs.Number.{natural, spell}
-use Rattle.bits_value.specs.declared.Sign.TheVariants.{Unsigned}
 use Rattle.bits_value.specs.declared.Endian.TheVariants.{Big}
 use Rattle.bits_value.proofs.Spellings.{length-spell}
 use Rattle.term_value.specs.Value.{Value, Values, none, more, VInt, VBits}
@@ -15,14 +15,14 @@ use Rattle.term_value.specs.Bounds.{bit_bound, value_or_limit}
 use Rattle.term_value.specs.Setting.{Setting}
 use Rattle.erl_syntax.specs.Typing.{type_by}
 use Rattle.erl_syntax.specs.declared.typing.Typed.{Typed}
-use Rattle.erl_syntax.specs.declared.typing.Kind.TheVariants.{Int}
 use Rattle.term_value.specs.Tree.{Bound, Trees, end, and, Val, Variable, Segments, segment, Build}
 use Rattle.term_value.specs.PutIn.{value_in, in_segments, puts_in}
 use Rattle.term_value.specs.Read.{piece, parts, types, literal, segments, before_size}
 use Rattle.term_value.specs.Result.{Gives}
-use Rattle.term_value.specs.Encode.{filled_with, built_on}
-use Rattle.term_value.specs.Primitives.{prim, bounded_result}
-use Rattle.term_value.specs.Decode.{Cut, bound_to, bits_taken}
+use Rattle.term_value.specs.Extent.{Exactly}
+use Rattle.term_value.specs.Encode.{Filled, filled_before, filled_with, built_on}
+use Rattle.term_value.specs.Primitives.{prim, built_where, bounded_result}
+use Rattle.term_value.specs.Decode.{Cut, bound_to, cut, wanted}
 use Rattle.term_value.specs.Match.{Yes, all_taken, whole, then_take}
 use Rattle.term_value.specs.Machine.{value_trees}
 use Rattle.first_form.specs.Form.{part_size, IsField, AreNew, fields_bits, parts_bits}
@@ -60,14 +60,29 @@ pub values_put : (bs : List Bound) (vs : Values) → puts_in bs (value_trees vs)
 values_put bs none = refl
 values_put bs (more v vs) = ap (and (Val v)) (values_put bs vs)
 
-one_built : (o : Option ℕ) (v : ℕ) (ts : List Typed) (vs : Values) (before : List Bool) → length before + part_size o ≤ bit_bound →
-    built_on (filled_with ((piece (size_read o) [] (literal (VInt (pos v)))).typed ∷ ts) (more (VInt (pos v)) (with_size o vs))) before
-    ≡ built_on (filled_with ts vs) (before ++ spell (part_size o) (pos v) Big)
-one_built None v ts vs before h =
+-- a part as a segment with its value and its size
+abbrev pub filled_part : Option ℕ → ℕ → Filled
+filled_part o v = record { typed = (piece (size_read o) [] (literal (VInt (pos v)))).typed; value = VInt (pos v); size = option_map (λ bits. VInt (pos bits)) o }
+
+abbrev pub filled_parts : List Part → List Filled
+filled_parts ps = map (λ part. filled_part part.bits part.value) ps
+
+one_filled : (o : Option ℕ) (v : ℕ) (ts : List Typed) (vs : Values) (later : List Filled) → filled_with ts vs ≡ Some later →
+    filled_with ((piece (size_read o) [] (literal (VInt (pos v)))).typed ∷ ts) (more (VInt (pos v)) (with_size o vs)) ≡ Some (filled_part o v ∷ later)
+one_filled None v ts vs later e = ap (filled_before (piece None [] (literal (VInt (pos v)))).typed (VInt (pos v)) None) e
+one_filled (Some bits) v ts vs later e = ap (filled_before (piece (size_read (Some bits)) [] (literal (VInt (pos v)))).typed (VInt (pos v)) (Some (VInt (pos bits)))) e
+
+parts_filled : (ps : List Part) → filled_with (types (map part_piece ps)) (part_values ps) ≡ Some (filled_parts ps)
+parts_filled [] = refl
+parts_filled (part ∷ ps) = one_filled part.bits part.value (types (map part_piece ps)) (part_values ps) (filled_parts ps) (parts_filled ps)
+
+one_built : (o : Option ℕ) (v : ℕ) (later : List Filled) (before : List Bool) → length before + part_size o ≤ bit_bound →
+    built_on (filled_part o v ∷ later) before ≡ built_on later (before ++ spell (part_size o) (pos v) Big)
+one_built None v later before h =
     let l : length (before ++ spell 8 (pos v) Big) ≤ bit_bound = omega (arith, h, length-append before (spell 8 (pos v) Big), length-spell 8 (pos v) Big) in
     let t : nat_le (length (before ++ spell 8 (pos v) Big)) bit_bound ≡ true = le_true _ _ l in
     rw t refl
-one_built (Some bits) v ts vs before h =
+one_built (Some bits) v later before h =
     let e : bits * 1 ≡ bits = omega arith in
     let l : length (before ++ spell bits (pos v) Big) ≤ bit_bound = omega (arith, h, length-append before (spell bits (pos v) Big), length-spell bits (pos v) Big) in
     let t : nat_le (length (before ++ spell bits (pos v) Big)) bit_bound ≡ true = le_true _ _ l in
@@ -81,11 +96,11 @@ field_sum : (field : Field) (fields : List Field) → fields_bits (field ∷ fie
 field_sum field fields = sum_by-cons (λ f. f.bits) field fields
 
 pub built_parts : (ps : List Part) (before : List Bool) → length before + parts_bits ps ≤ bit_bound →
-    built_on (filled_with (types (map part_piece ps)) (part_values ps)) before ≡ Gives (VBits (before ++ parts_as_bits ps))
+    built_on (filled_parts ps) before ≡ Gives (VBits (before ++ parts_as_bits ps))
 built_parts [] before h = ap (λ bits. Gives (VBits bits)) (sym (append-nil before))
 built_parts (part ∷ ps) before h =
     let bits : List Bool = spell (part_size part.bits) (pos part.value) Big in
-    one_built part.bits part.value (types (map part_piece ps)) (part_values ps) before (omega (arith, h, part_sum part ps))
+    one_built part.bits part.value (filled_parts ps) before (omega (arith, h, part_sum part ps))
     ∙ built_parts ps (before ++ bits) (omega (arith, h, part_sum part ps, length-append before bits, length-spell (part_size part.bits) (pos part.value) Big))
     ∙ ap (λ b. Gives (VBits b)) (append_assoc before bits (parts_as_bits ps))
 
@@ -101,7 +116,7 @@ pub prim_parts : (s : Setting) (ps : List Part) → parts_bits ps ≤ bit_bound 
 prim_parts s ps h =
     let b : List Bool = parts_as_bits ps in
     let t : nat_le (length b) bit_bound ≡ true = le_true _ _ (omega (arith, h, built_length ps)) in
-    ap bounded_result (built_parts ps [] (omega (arith, h))) ∙ ap (λ x. value_or_limit x (VBits b)) t
+    ap (λ o. bounded_result (built_where o)) (parts_filled ps) ∙ ap bounded_result (built_parts ps [] (omega (arith, h))) ∙ ap (λ x. value_or_limit x (VBits b)) t
 
 -- matching
 
@@ -156,9 +171,9 @@ new_free number names acc name others h new apart = h (number name) (λ a there 
 apart_next : (number : ℕ → ℕ) (names : List ℕ) (name : ℕ) (others : List ℕ) → Apart number (names ++ name ∷ others) → Apart number ((names ++ name ∷ []) ++ others)
 apart_next number names name others h = subst (λ all. Apart number all) (sym (append_assoc names (name ∷ []) others)) h
 
-cut : (s : Setting) (x n m : ℕ) (acc : List Bound) (bits : List Bool) → m ≡ n → n ≤ 64 → n ≤ length bits →
-    bits_taken s Int Unsigned Big (Variable x) (nat_le m (length bits)) m acc bits ≡ Cut (bound_to x (VInt (pos (natural (take n bits)))) acc) (drop n bits)
-cut s x n m acc bits e small room =
+front_taken : (s : Setting) (x n m : ℕ) (acc : List Bound) (bits : List Bool) → m ≡ n → n ≤ 64 → n ≤ length bits →
+    wanted s (Variable x) acc (cut (type_by true []) (Exactly m) bits) ≡ Cut (bound_to x (VInt (pos (natural (take n bits)))) acc) (drop n bits)
+front_taken s x n m acc bits e small room =
     let t : nat_le n (length bits) ≡ true = le_true _ _ room in
     let l : length (take n bits) ≤ 64 = omega (arith, small, length-take-le n bits room) in
     rw (e, t, narrow_some (take n bits) l) refl
@@ -167,7 +182,7 @@ one_taken : (s : Setting) (x n : ℕ) (rest : Segments) (acc : List Bound) (bits
     all_taken s (segment (type_by true []) (Variable x) (and (Val (VInt (pos n))) end) rest) acc bits
     ≡ all_taken s rest (bound_to x (VInt (pos (natural (take n bits)))) acc) (drop n bits)
 one_taken s x n rest acc bits free small room =
-    rw free (ap (λ t. then_take t (all_taken s rest)) (cut s x n (n * 1) acc bits (omega arith) small room))
+    rw free (ap (λ t. then_take t (all_taken s rest)) (front_taken s x n (n * 1) acc bits (omega arith) small room))
 
 whole_nil : (acc : List Bound) (bits : List Bool) → 0 ≡ length bits → whole (Cut acc bits) ≡ Yes (acc ++ [])
 whole_nil acc [] h = ap Yes (sym (append-nil acc))

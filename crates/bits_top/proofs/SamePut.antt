@@ -73,7 +73,7 @@ mutual
 
   pub generator_put : (a b : List Bound) (g : Generator) → in_generator b (in_generator a g) ≡ in_generator (a ++ b) g
   generator_put a b (InList p) = ap InList (one_put a b p)
-  generator_put a b (InBits ss) = ap InBits (segments_put a b ss)
+  generator_put a b (InBits ss shape) = cc (segments_put a b ss, segments_put a b shape)
 
   pub levels_put : (a b : List Bound) (ls : Levels) → in_levels b (in_levels a ls) ≡ in_levels (a ++ b) ls
   levels_put a b bottom = refl

@@ -1,6 +1,7 @@
 -- A run of a module of today's form is a run of the same module in the copying machine of the whole language, with the same texts.
 use Rattle.std.proofs.Common.{◌≡◌, ℕ, ℤ, suc, zero, ◌-◌, ◌≤◌, List, [], ◌∷◌, ◌++◌, map, true, All, refl, sym, ap, subst, ◌∙◌, arith, append_assoc, append-nil, codes, decimal, slice_index_or}
-use Rattle.std.specs.List.{flat_map, AllByRecursion}
+use Rattle.std.specs.List.{flat_map}
+use Rattle.std.specs.Prelude.{option_and_then, Some}
 use Rattle.std.specs.Fmt.{signed_decimal}
 use Rattle.std.proofs.lemmas.Fmt.{decimal_digit}
 use Rattle.std.proofs.lemmas.Grind.{common_steps}
@@ -12,9 +13,10 @@ use Rattle.term_value.specs.Result.{truth}
 use Rattle.term_value.specs.Tree.{Call, All as Form, end, Module}
 use Rattle.term_value.specs.Texts.{text, atom_text}
 use Rattle.term_value.specs.Step.{Show, name_in}
-use Rattle.term_value.specs.Local.{Local, Outcome, Wants, EndsDone, EndsRaised, ask_of}
+use Rattle.term_value.specs.Local.{Local, NextAsk, Wants, EndsDone, EndsRaised}
+use Rattle.term_value.specs.AskOf.{ask_of}
 use Rattle.erl_syntax.specs.Reading.{number_in}
-use Rattle.term_value.specs.Machine.{End, Exit, Process, Running, Over, Left, Machine, first_of, start_of, apply, after, Legal, IsLegal, IsGone}
+use Rattle.term_value.specs.Machine.{End, Exit, Process, Running, Over, Left, Machine, first_of, beginning, start_of, applied, all_applied, Leads}
 use Rattle.term_value.specs.Machine as machine
 use Rattle.term_value.specs.Orders.{order_text}
 use Rattle.term_value.specs.Reports as reports
@@ -44,44 +46,37 @@ abbrev pub whole_at : Module → ℕ → Process → List ℤ → Machine
 whole_at code r process shown = record { code = code; reductions = r; processes = process ∷ []; shown = map (λ n. VInt n) shown }
 
 -- the entries lead the machine to the end of process 1, when it has displayed these integers
-pub record Leads (code : Module) (r : ℕ) (process : Process) (before : List ℤ) (entries : List Entry) (shown : List ℤ) (how : Ending) : Type 0 where
-  pub legal : IsLegal (whole_at code r process before) entries
-  pub state : after (whole_at code r process before) entries ≡ whole_at code r (Left (whole_end how)) (before ++ shown)
+abbrev pub LeadsOut : Module → ℕ → Process → List ℤ → List Entry → List ℤ → Ending → Type 0
+LeadsOut code r process before entries shown how = Leads (whole_at code r process before) entries (whole_at code r (Left (whole_end how)) (before ++ shown))
 
 -- the end
 
-abbrev pub asks_end : Ending → Outcome
+abbrev pub asks_end : Ending → NextAsk
 asks_end Normal = EndsDone
 asks_end Exhausted = EndsRaised (VAtom a_reductions)
 
 over_at : (code : Module) (r : ℕ) (k : Local) (before : List ℤ) (how : Ending) → ask_of code k ≡ asks_end how →
-    Legal (whole_at code r (Running k []) before) (Ended 1) × (apply (whole_at code r (Running k []) before) (Ended 1) ≡ whole_at code r (Over (whole_end how)) before)
-over_at code r k before Normal e = (rw e tt, rw e refl)
-over_at code r k before Exhausted e = (rw e tt, rw e refl)
+    applied (whole_at code r (Running k []) before) (Ended 1) ≡ Some (whole_at code r (Over (whole_end how)) before)
+over_at code r k before Normal e = rw e refl
+over_at code r k before Exhausted e = rw e refl
 
-leads_out : (code : Module) (r : ℕ) (k : Local) (before : List ℤ) (how : Ending) → ask_of code k ≡ asks_end how → Leads code r (Running k []) before end_entries [] how
+leads_out : (code : Module) (r : ℕ) (k : Local) (before : List ℤ) (how : Ending) → ask_of code k ≡ asks_end how → LeadsOut code r (Running k []) before end_entries [] how
 leads_out code r k before how e =
-    let over = over_at code r k before how e in
-    record {
-      legal = (over.0, subst (λ m. IsLegal m (Gone 1 0 0 0 ∷ [])) (sym over.1) (tt, tt));
-      state = ap (λ m. apply m (Gone 1 0 0 0)) over.1 ∙ ap (λ l. whole_at code r (Left (whole_end how)) l) (sym (append-nil before));
-    }
+    ap (option_and_then (λ n. all_applied n (Gone 1 0 0 0 ∷ []))) (over_at code r k before how e)
+    ∙ ap (λ l. Some (whole_at code r (Left (whole_end how)) l)) (sym (append-nil before))
 
 -- a display
 leads_on : (code : Module) (r : ℕ) (k : Local) (before : List ℤ) (n : ℤ) (next : Value → Local) (entries : List Entry) (shown : List ℤ) (how : Ending) → ask_of code k ≡ Wants (Show (VInt n)) next →
-    Leads code r (Running (next (truth true)) []) (before ++ n ∷ []) entries shown how → Leads code r (Running k []) before (Shown 1 ∷ entries) (n ∷ shown) how
+    LeadsOut code r (Running (next (truth true)) []) (before ++ n ∷ []) entries shown how → LeadsOut code r (Running k []) before (Shown 1 ∷ entries) (n ∷ shown) how
 leads_on code r k before n next entries shown how e later =
     let wider : map (λ i. VInt i) (before ++ n ∷ []) ≡ map (λ i. VInt i) before ++ VInt n ∷ [] = grind (arith, common_steps) in
-    let there : apply (whole_at code r (Running k []) before) (Shown 1) ≡ whole_at code r (Running (next (truth true)) []) (before ++ n ∷ []) = rw (e, wider) refl in
-    record {
-      legal = (rw e tt, subst (λ m. IsLegal m entries) (sym there) later.legal);
-      state = ap (λ m. after m entries) there ∙ later.state ∙ ap (λ l. whole_at code r (Left (whole_end how)) l) (append_assoc before (n ∷ []) shown);
-    }
+    let there : applied (whole_at code r (Running k []) before) (Shown 1) ≡ Some (whole_at code r (Running (next (truth true)) []) (before ++ n ∷ [])) = rw (e, wider) refl in
+    ap (option_and_then (λ m. all_applied m entries)) there ∙ later ∙ ap (λ l. Some (whole_at code r (Left (whole_end how)) l)) (append_assoc before (n ∷ []) shown)
 
 -- the items one after another
 leads : (number : ℕ → ℕ) (code : Module) (r : ℕ) (items : List Item) (bs : List Binding) (left : ℕ) (k : Local) (before : List ℤ) → AreItems (known bs) items → All IsShort items →
     AllApart number bs items → ask_of code k ≡ whole_of number (due bs items left) →
-    Leads code r (Running k []) before (shown_entries (shown_of bs items left) ++ end_entries) (shown_of bs items left) (ending_of bs items left)
+    LeadsOut code r (Running k []) before (shown_entries (shown_of bs items left) ++ end_entries) (shown_of bs items left) (ending_of bs items left)
 leads number code r [] bs left k before fits short apart e = leads_out code r k before Normal e
 leads number code r (Match fields ps ∷ items) bs left k before fits short apart e =
     leads number code r items (bs ++ decoded fields (parts_as_bits ps)) left k before (subst (λ names. AreItems names items) (sym (known_more bs fields (parts_as_bits ps))) fits.1)
@@ -105,7 +100,7 @@ end_text : (code : Module) (how : Ending) → SpellsReductions code.atoms → en
 end_text code Normal spelled = refl
 end_text code Exhausted spelled = let d : decimal 1 ≡ 49 ∷ [] = decimal_digit 1 (omega arith) in rw (spelled, d) refl
 
-lines : (code : Module) (r : ℕ) (shown : List ℤ) (how : Ending) → SpellsReductions code.atoms → report_of shown how ≡ reports.machine_text (whole_at code r (Left (whole_end how)) shown)
+lines : (code : Module) (r : ℕ) (shown : List ℤ) (how : Ending) → SpellsReductions code.atoms → report_of shown how ≡ reports.report (whole_at code r (Left (whole_end how)) shown)
 lines code r shown how spelled =
     let values : List Value = map (λ n. VInt n) shown in
     let texts : List (List ℕ) = map (text (name_in code)) values in
@@ -119,8 +114,7 @@ whole_start : (number : ℕ → ℕ) (atoms : List (List ℕ)) (name main : ℕ)
     start_of (module_by number atoms name main s) r ≡ whole_at (module_by number atoms name main s) r (Running (standing r (Form (Call 0) end)) []) []
 whole_start number atoms name main s r called =
     let code : Module = module_by number atoms name main s in
-    ap (λ f. let m : Machine = record { code = code; reductions = r; processes = Running (first_of code r 1 name f none) [] ∷ []; shown = [] } in m) called
-    ∙ ap (λ k. let m : Machine = record { code = code; reductions = r; processes = Running k [] ∷ []; shown = [] } in m) (starts number atoms name main s r)
+    ap (λ f. beginning code r (first_of code r 1 name f none)) called ∙ ap (beginning code r) (starts number atoms name main s r)
 
 -- whatever the numbers of the variables, where they are different ones
 pub same_run : (number : ℕ → ℕ) (atoms others : List (List ℕ)) (name main : ℕ) (s : Straight) (r : ℕ) (outcome : ran.Outcome) (order report : List ℕ) → AreApart number s →
@@ -137,12 +131,12 @@ same_run number atoms others name main s (suc left) outcome order report apart t
     let same_ending : outcome.ending ≡ how = run.ending ∙ ap (λ n. ending_of [] s.items n) less in
     let f = leads number code (suc left) s.items [] left (standing (suc left) (Form (Call 0) end)) [] formed.items short apart (asks_first number atoms name main s left formed.items short apart) in
     let at : start_of code (suc left) ≡ whole_at code (suc left) (Running (standing (suc left) (Form (Call 0) end)) []) [] = whole_start number atoms name main s (suc left) called in
-    let there : after (start_of code (suc left)) entries ≡ whole_at code (suc left) (Left (whole_end how)) shown = ap (λ m. after m entries) at ∙ f.state in
     let spelled : SpellsReductions atoms = subst SpellsReductions (sym table) refl in
     record {
       entries = entries;
-      legal = subst (λ m. IsLegal m entries) (sym at) f.legal;
-      complete = subst (λ m. AllByRecursion IsGone m.processes) (sym there) (tt, tt);
+      state = whole_at code (suc left) (Left (whole_end how)) shown;
+      leads = subst (λ m. Leads m entries (whole_at code (suc left) (Left (whole_end how)) shown)) (sym at) f;
+      complete = (tt, tt);
       ordered = ordered ∙ ap order_text (run.entries ∙ ap (λ l. shown_entries l ++ end_entries) same_shown);
-      reported = reported ∙ ap (λ l. report_of l outcome.ending) same_shown ∙ ap (λ e. report_of shown e) same_ending ∙ lines code (suc left) shown how spelled ∙ sym (ap reports.machine_text there);
+      reported = reported ∙ ap (λ l. report_of l outcome.ending) same_shown ∙ ap (λ e. report_of shown e) same_ending ∙ lines code (suc left) shown how spelled;
     }

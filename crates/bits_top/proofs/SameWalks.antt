@@ -13,7 +13,8 @@ use Rattle.term_value.specs.PutIn.{put_in}
 use Rattle.term_value.specs.Read.{body, types, segments}
 use Rattle.term_value.specs.Step.{World, setting, Ask, Show, Ready, Goes, Asks, step, steps}
 use Rattle.term_value.specs.Machine.{value_trees, first_of}
-use Rattle.term_value.specs.Local.{Local, Course, At, Fell, spent, Outcome, Wants, EndsDone, EndsRaised, Unfinished, walk, outcome_in, ask_of, size_of}
+use Rattle.term_value.specs.Local.{Local, Course, At, Fell, On, spent, NextAsk, Wants, EndsDone, EndsRaised, Unfinished}
+use Rattle.term_value.specs.AskOf.{size_of, walk, outcome_in, ask_of}
 use Rattle.first_form.specs.Form.{IsField, AreNew, AreItems, bound_by, IsShort, fields_bits, parts_bits}
 use Rattle.bits_top.specs.Runs.{bound_value, parts_as_bits, decoded, known}
 use Rattle.first_form.specs.Whole.{field_pieces, part_piece, line, module_by, AreApart}
@@ -36,29 +37,29 @@ not_less n = grind (arith, nat_tests)
 not_below : (n : ℕ) → nat_lt n 0 ≡ false
 not_below n = grind (arith, nat_tests)
 
-free : (l : Local) (c : Course) → spent l 0 c ≡ record l { course = c }
-free l c = let e : l.left - 0 ≡ l.left = omega arith in rw (not_below l.left, e) refl
+free : (l : Local) (made : ℕ) (c : Course) → spent l 0 made c ≡ On 0 made (record l { course = c })
+free l made c = let e : l.left - 0 ≡ l.left = omega arith in rw (not_below l.left, e) refl
 
 abbrev pub world_of : Module → World
 world_of code = record { code = code; pid = 1 }
 
-walk_free : (code : Module) (less : Local → Outcome) (n left : ℕ) (t u : Tree) → step (world_of code) t ≡ Goes 0 u →
+walk_free : (code : Module) (less : Local → NextAsk) (n left made : ℕ) (t u : Tree) → step (world_of code) t ≡ Goes 0 made u →
     walk code less (suc n) (standing left t) ≡ walk code less n (standing left u)
-walk_free code less n left t u e = rw (e, free (standing left t) (At u), not_less left) refl
+walk_free code less n left made t u e = rw (e, free (standing left t) made (At u), not_less left) refl
 
-walk_done : (code : Module) (less : Local → Outcome) (n left : ℕ) (v : Value) → walk code less n (standing left (Val v)) ≡ EndsDone
+walk_done : (code : Module) (less : Local → NextAsk) (n left : ℕ) (v : Value) → walk code less n (standing left (Val v)) ≡ EndsDone
 walk_done code less zero left v = refl
 walk_done code less (suc n) left v = refl
 
-walk_out : (code : Module) (less : Local → Outcome) (n left : ℕ) → walk code less n (record { pid = 1; course = Fell (raise a_reductions); seen = []; left = left }) ≡ EndsRaised (VAtom a_reductions)
+walk_out : (code : Module) (less : Local → NextAsk) (n left : ℕ) → walk code less n (record { pid = 1; course = Fell (raise a_reductions); seen = []; left = left }) ≡ EndsRaised (VAtom a_reductions)
 walk_out code less zero left = refl
 walk_out code less (suc n) left = refl
 
-walk_spent : (code : Module) (less : Local → Outcome) (n : ℕ) (t : Tree) (ask : Ask) (next : Value → Tree) → step (world_of code) t ≡ Asks ask next →
+walk_spent : (code : Module) (less : Local → NextAsk) (n : ℕ) (t : Tree) (ask : Ask) (next : Value → Tree) → step (world_of code) t ≡ Asks ask next →
     walk code less (suc n) (standing 0 t) ≡ EndsRaised (VAtom a_reductions)
 walk_spent code less n t ask next e = rw e (walk_out code less n 0)
 
-walk_asks : (code : Module) (less : Local → Outcome) (n left : ℕ) (t : Tree) (ask : Ask) (next : Value → Tree) → step (world_of code) t ≡ Asks ask next →
+walk_asks : (code : Module) (less : Local → NextAsk) (n left : ℕ) (t : Tree) (ask : Ask) (next : Value → Tree) → step (world_of code) t ≡ Asks ask next →
     walk code less (suc n) (standing (suc left) t) ≡ Wants ask (λ v. standing left (next v))
 walk_asks code less n left t ask next e = let d : suc left - 1 ≡ left = omega arith in rw e (ap (λ k. Wants ask (λ v. standing k (next v))) d)
 
@@ -71,7 +72,7 @@ steps_ready w (more v vs) = rw (steps_ready w vs) refl
 abbrev pub building : List Part → Tree
 building ps = Form (Table (Build (types (map part_piece ps)))) (value_trees (part_values ps))
 
-builds : (w : World) (ps : List Part) (rest : Shut) → parts_bits ps ≤ bit_bound → step w (First (building ps) rest) ≡ Goes 0 (First (Val (VBits (parts_as_bits ps))) rest)
+builds : (w : World) (ps : List Part) (rest : Shut) → parts_bits ps ≤ bit_bound → step w (First (building ps) rest) ≡ Goes 0 (length (parts_as_bits ps)) (First (Val (VBits (parts_as_bits ps))) rest)
 builds w ps rest h = rw (steps_ready w (part_values ps), prim_parts (setting w) ps h) refl
 
 -- the patterns of an item that matches
@@ -79,11 +80,11 @@ abbrev pub fields_pattern : (ℕ → ℕ) → List Field → Patterns
 fields_pattern number fields = pattern_and (PBits (segments (field_pieces number fields))) no_pattern
 
 takes_last : (w : World) (number : ℕ → ℕ) (names : List ℕ) (fields : List Field) (bits : List Bool) → AreNew names fields → Apart number (names ++ map (λ field. field.variable) fields) →
-    All IsField fields → fields_bits fields ≡ length bits → step w (First (Val (VBits bits)) (Last (fields_pattern number fields))) ≡ Goes 0 (Val (VBits bits))
+    All IsField fields → fields_bits fields ≡ length bits → step w (First (Val (VBits bits)) (Last (fields_pattern number fields))) ≡ Goes 0 0 (Val (VBits bits))
 takes_last w number names fields bits new apart fit even = rw (fields_taken (setting w) number names fields [] bits (λ x free. refl) new apart fit even) refl
 
 takes_then : (w : World) (number : ℕ → ℕ) (names : List ℕ) (fields : List Field) (bits : List Bool) (rest : Tree) → AreNew names fields → Apart number (names ++ map (λ field. field.variable) fields) →
-    All IsField fields → fields_bits fields ≡ length bits → step w (First (Val (VBits bits)) (Then (fields_pattern number fields) rest)) ≡ Goes 0 (put_in (numbered number (decoded fields bits)) rest)
+    All IsField fields → fields_bits fields ≡ length bits → step w (First (Val (VBits bits)) (Then (fields_pattern number fields) rest)) ≡ Goes 0 0 (put_in (numbered number (decoded fields bits)) rest)
 takes_then w number names fields bits rest new apart fit even = rw (fields_taken (setting w) number names fields [] bits (λ x free. refl) new apart fit even) refl
 
 -- the body with the values put in
@@ -109,12 +110,12 @@ open_after number bs fields bits items =
 abbrev pub display_of : ℤ → Tree
 display_of n = Form Display (and (Val (VInt n)) end)
 
-walk_shows_last : (code : Module) (less : Local → Outcome) (number : ℕ → ℕ) (n left : ℕ) (v : ℤ) (bs : List Binding) →
+walk_shows_last : (code : Module) (less : Local → NextAsk) (number : ℕ → ℕ) (n left : ℕ) (v : ℤ) (bs : List Binding) →
     walk code less (suc n) (standing left (display_of v)) ≡ whole_of number (due_display v bs [] left)
 walk_shows_last code less number n zero v bs = walk_spent code less n (display_of v) (Show (VInt v)) (λ a. Val a) refl
 walk_shows_last code less number n (suc left) v bs = walk_asks code less n left (display_of v) (Show (VInt v)) (λ a. Val a) refl
 
-walk_shows_then : (code : Module) (less : Local → Outcome) (number : ℕ → ℕ) (n left : ℕ) (v : ℤ) (bs : List Binding) (next : Item) (items : List Item) →
+walk_shows_then : (code : Module) (less : Local → NextAsk) (number : ℕ → ℕ) (n left : ℕ) (v : ℤ) (bs : List Binding) (next : Item) (items : List Item) →
     walk code less (suc n) (standing left (First (display_of v) (Then no_pattern (open_body number bs (next ∷ items))))) ≡ whole_of number (due_display v bs (next ∷ items) left)
 walk_shows_then code less number n zero v bs next items =
     let t : Tree = open_body number bs (next ∷ items) in
@@ -140,7 +141,7 @@ room_for number (item.Display x ∷ []) bs = omega arith
 room_for number (item.Match fields ps ∷ next ∷ items) bs = omega (arith, room_for number (next ∷ items) bs)
 room_for number (item.Display x ∷ next ∷ items) bs = omega (arith, room_for number (next ∷ items) bs)
 
-walk_items : (code : Module) (less : Local → Outcome) (number : ℕ → ℕ) (items : List Item) (bs : List Binding) (left n : ℕ) → AreItems (known bs) items → All IsShort items → AllApart number bs items →
+walk_items : (code : Module) (less : Local → NextAsk) (number : ℕ → ℕ) (items : List Item) (bs : List Binding) (left n : ℕ) → AreItems (known bs) items → All IsShort items → AllApart number bs items →
     2 * length items ≤ n → walk code less n (standing left (open_body number bs items)) ≡ whole_of number (due bs items left)
 walk_items code less number [] bs left n fits short apart h = walk_done code less n left _
 walk_items code less number (i ∷ items) bs left zero fits short apart h = absurd (omega (arith, h))
@@ -148,18 +149,18 @@ walk_items code less number (i ∷ items) bs left (suc zero) fits short apart h 
 walk_items code less number (item.Match fields ps ∷ []) bs left (suc (suc n)) fits short apart h =
     let here = apart_fields number bs fields ps [] apart in
     ap (λ t. walk code less (suc (suc n)) (standing left t)) (open_match_last number bs fields ps fits.0.new here)
-    ∙ walk_free code less (suc n) left (First (building ps) (Last (fields_pattern number fields))) (First (Val (VBits (parts_as_bits ps))) (Last (fields_pattern number fields)))
+    ∙ walk_free code less (suc n) left (length (parts_as_bits ps)) (First (building ps) (Last (fields_pattern number fields))) (First (Val (VBits (parts_as_bits ps))) (Last (fields_pattern number fields)))
     (builds (world_of code) ps (Last (fields_pattern number fields)) (All-head IsShort (item.Match fields ps) [] short))
-    ∙ walk_free code less n left (First (Val (VBits (parts_as_bits ps))) (Last (fields_pattern number fields))) (Val (VBits (parts_as_bits ps)))
+    ∙ walk_free code less n left 0 (First (Val (VBits (parts_as_bits ps))) (Last (fields_pattern number fields))) (Val (VBits (parts_as_bits ps)))
     (takes_last (world_of code) number (known bs) fields (parts_as_bits ps) fits.0.new here fits.0.fields_fit (even_bits (known bs) fields ps fits.0))
     ∙ walk_done code less n left (VBits (parts_as_bits ps))
 walk_items code less number (item.Match fields ps ∷ next ∷ items) bs left (suc (suc n)) fits short apart h =
     let here = apart_fields number bs fields ps (next ∷ items) apart in
     let rest : Tree = open_body number bs (next ∷ items) in
     ap (λ t. walk code less (suc (suc n)) (standing left t)) (open_match_then number bs fields ps next items fits.0.new here)
-    ∙ walk_free code less (suc n) left (First (building ps) (Then (fields_pattern number fields) rest)) (First (Val (VBits (parts_as_bits ps))) (Then (fields_pattern number fields) rest))
+    ∙ walk_free code less (suc n) left (length (parts_as_bits ps)) (First (building ps) (Then (fields_pattern number fields) rest)) (First (Val (VBits (parts_as_bits ps))) (Then (fields_pattern number fields) rest))
     (builds (world_of code) ps (Then (fields_pattern number fields) rest) (All-head IsShort (item.Match fields ps) (next ∷ items) short))
-    ∙ walk_free code less n left (First (Val (VBits (parts_as_bits ps))) (Then (fields_pattern number fields) rest)) (put_in (numbered number (decoded fields (parts_as_bits ps))) rest)
+    ∙ walk_free code less n left 0 (First (Val (VBits (parts_as_bits ps))) (Then (fields_pattern number fields) rest)) (put_in (numbered number (decoded fields (parts_as_bits ps))) rest)
     (takes_then (world_of code) number (known bs) fields (parts_as_bits ps) rest fits.0.new here fits.0.fields_fit (even_bits (known bs) fields ps fits.0))
     ∙ ap (λ t. walk code less n (standing left t)) (open_after number bs fields (parts_as_bits ps) (next ∷ items))
     ∙ walk_items code less number (next ∷ items) (bs ++ decoded fields (parts_as_bits ps)) left n (subst (λ names. AreItems names (next ∷ items)) (sym (known_more bs fields (parts_as_bits ps))) fits.1)
@@ -173,7 +174,7 @@ walk_items code less number (item.Display x ∷ next ∷ items) bs left (suc (su
 
 -- the ask of a local state
 
-by_walk : (code : Module) (left : ℕ) (t : Tree) (o : Outcome) → ((less : Local → Outcome) → walk code less (suc (size_of t)) (standing left t) ≡ o) → ask_of code (standing left t) ≡ o
+by_walk : (code : Module) (left : ℕ) (t : Tree) (o : NextAsk) → ((less : Local → NextAsk) → walk code less (suc (size_of t)) (standing left t) ≡ o) → ask_of code (standing left t) ≡ o
 by_walk code zero t o h = h (λ l. Unfinished)
 by_walk code (suc left) t o h = h (outcome_in code left)
 
@@ -186,7 +187,7 @@ asks_resting code number bs (i ∷ items) left answer fits short apart =
     let again : put_in [] t ≡ t = put_put (numbered number bs) [] (body (map (line number) (i ∷ items))) ∙ ap (λ b. put_in b (body (map (line number) (i ∷ items)))) (append-nil (numbered number bs)) in
     let room : 2 * length (i ∷ items) ≤ 1 + size_of t + 2 = omega (arith, room_for number (i ∷ items) (numbered number bs)) in
     by_walk code left (First (Val answer) (Then no_pattern t)) (whole_of number (due bs (i ∷ items) left))
-    (λ less. walk_free code less (1 + size_of t + 2) left (First (Val answer) (Then no_pattern t)) t (ap (λ u. Goes 0 u) again)
+    (λ less. walk_free code less (1 + size_of t + 2) left 0 (First (Val answer) (Then no_pattern t)) t (ap (λ u. Goes 0 0 u) again)
     ∙ walk_items code less number (i ∷ items) bs left (1 + size_of t + 2) fits short apart room)
 
 same_number : (n : ℕ) → nat_eq n n ≡ true

@@ -11,6 +11,8 @@ pub mod NameOrder
 pub mod OrderLines
 pub mod Ordered
 pub mod Outcomes
+pub mod Paid
+pub mod Parcels
 pub mod ReadsBack
 pub mod RowLemmas
 pub mod Shifts

@@ -27,9 +27,9 @@ pub use comparison::compare;
 pub use computed::Arith;
 pub use entry::Entry;
 pub use laws::{
-    calls_are_read, character_reads_back, complete_is_last, each_asks, entry_is_line,
+    calls_are_read, character_reads_back, complete_is_last, cost_is_paid, each_asks, entry_is_line,
     equal_is_same, free_shrinks, guards_contract, integer_reads_back, legal_is_short,
-    names_by_characters, one_order, order_is_total, outcome_reports,
+    names_by_characters, one_order, order_is_total, outcome_reports, parcel_starts,
 };
 pub use look::Look;
 pub use made::{cons, list_of, tuple_of};
