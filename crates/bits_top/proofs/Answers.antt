@@ -7,11 +7,8 @@ use Rattle.bits_top.specs.Command.{Spells, SpellsCheck, SpellsRun}
 use Rattle.bits_top.specs.declared.command.Command.{Command}
 use Rattle.bits_top.specs.declared.command.Command.TheVariants as made
 use Rattle.std.proofs.Math.Logic.{∥∥₁_map}
-use Rattle.erl_syntax.specs.Checking.{AreNumbered, HaveNumbers}
 use Rattle.erl_syntax.specs.Reading.{Reads, longest_text}
-use Rattle.erl_syntax.specs.declared.checking.VarUse.{VarUse}
 use Rattle.first_form.specs.TreeOf.{IsForm, IsTreeOf}
-use Rattle.first_form.proofs.Numbered.{have_numbers}
 use Rattle.erl_syntax.specs.declared.module.Module.{Module}
 use Rattle.module_accept.specs.Accepting.{Accepts, IsDue}
 use Rattle.module_accept.specs.Outcome.{Refuses}
@@ -39,11 +36,11 @@ refusal_answers BadOrder reductions text line source report order read same h = 
 pub accepted_answers : (status : Status) (reductions : ℕ) (text : List ℕ) (tree : Module) (source report order : Port) → (read : IsAccepted source text tree) → IsTreeOf tree read.straight → IsTable tree.atoms →
     AnswersAccepted reductions read.straight status report order → AnswersRun reductions status source report order
 accepted_answers Done reductions text tree source report order read of table h =
-    record { text = text; tree = tree; read = read; order_text = h.order_text; report_text = h.report_text; run = h.run tree of table; ordered = h.ordered; reported = h.reported }
+    record { text = text; tree = tree; read = read; order_text = h.order_text; report_text = h.report_text; run = ∥∥₁_map read.numbered (h.run tree read.numbers of table); ordered = h.ordered; reported = h.reported }
 accepted_answers OrderFault reductions text tree source report order read of table h =
-    record { text = text; tree = tree; read = read; order_text = h.order_text; report_text = h.report_text; run = h.run tree of table; fault = h.fault; ordered = h.ordered; reported = h.reported }
+    record { text = text; tree = tree; read = read; order_text = h.order_text; report_text = h.report_text; run = ∥∥₁_map read.numbered (h.run tree read.numbers of table); fault = h.fault; ordered = h.ordered; reported = h.reported }
 accepted_answers ReportFault reductions text tree source report order read of table h =
-    inl (record { text = text; tree = tree; read = read; order_text = h.order_text; report_text = h.report_text; run = h.run tree of table; ordered = h.ordered; fault = h.fault; reported = h.reported })
+    inl (record { text = text; tree = tree; read = read; order_text = h.order_text; report_text = h.report_text; run = ∥∥₁_map read.numbered (h.run tree read.numbers of table); ordered = h.ordered; fault = h.fault; reported = h.reported })
 accepted_answers Refused reductions text tree source report order read of table h = absurd h
 accepted_answers Usage reductions text tree source report order read of table h = h
 accepted_answers ReadFault reductions text tree source report order read of table h = absurd h
@@ -130,10 +127,6 @@ form_of seen bytes straight s form = let P : List ℕ → Type 0 = λ v. IsForm 
 
 pub only_of : (seen bytes : List ℕ) (tree : Module) → seen ≡ bytes → ((other : Module) → Reads seen other → other ≡ tree) → (other : Module) → Reads bytes other → other ≡ tree
 only_of seen bytes tree s only = let P : List ℕ → Type 0 = λ v. (other : Module) → Reads v other → other ≡ tree in subst P s only
-
--- a checked module of the form has numbers for its variables
-pub numbered_tree : (tree : Module) (straight : Straight) (uses : List VarUse) → IsTreeOf tree straight → ∥ AreNumbered tree.functions uses ∥₁ → ∥ HaveNumbers tree ∥₁
-numbered_tree tree straight uses of numbered = ∥∥₁_map numbered (λ n. have_numbers tree straight uses of n)
 
 -- a text of the form spells one module, whose tree is that of the form: so the text hasn't the form where its module hasn't
 pub none_built : (text : List ℕ) (tree : Module) → ((other : Module) → Reads text other → other ≡ tree) → ((straight : Straight) → IsForm text straight → (m : Module) × Reads text m × IsTreeOf m straight) →

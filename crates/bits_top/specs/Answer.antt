@@ -4,10 +4,10 @@ use Rattle.std.specs.Io.KnownBytes.{Appends, IsAtEnd}
 use Rattle.io_ports.specs.Causes.{Rose}
 use Rattle.bits_top.specs.Stream.{AppendsPrefix}
 use Rattle.erl_syntax.specs.Atoms.{fixed_atoms}
-use Rattle.erl_syntax.specs.Checking.{AreNumbersOf, HaveNumbers}
+use Rattle.erl_syntax.specs.Checking.{AreNumbered}
 use Rattle.erl_syntax.specs.Reading.{StandOnce, longest_text}
 use Rattle.erl_syntax.specs.declared.module.Module.{Module}
-use Rattle.erl_syntax.specs.declared.span.Span.{Span}
+use Rattle.erl_syntax.specs.declared.checking.VarUse.{VarUse}
 use Rattle.module_accept.specs.Accepting.{Accepts, IsDue}
 use Rattle.term_value.specs.ReadTrees.{module_of}
 use Rattle.first_form.specs.TreeOf.{IsForm, IsTreeOf}
@@ -54,10 +54,11 @@ pub record IsWhole (source : Port) (text : List ℕ) (m : Module) : Type 0 where
   pub short : length text ≤ longest_text
   pub accepts : Accepts text m
 
--- So it is, and the text has today's form; and the module's variables have numbers.
+-- So it is, and the text has today's form; and these are the variables of each of the module's functions.
 pub record IsAccepted (source : Port) (text : List ℕ) (tree : Module) : Type 0 where
   pub whole : IsWhole source text tree
-  pub numbered : ∥ HaveNumbers tree ∥₁
+  pub numbers : List (List VarUse)
+  pub numbered : ∥ AreNumbered tree.functions numbers ∥₁
   pub straight : Straight
   pub form : IsForm text straight
 
@@ -90,9 +91,9 @@ abbrev pub IsRefusedWith : Port → List ℕ → List ℕ → Type 0
 IsRefusedWith source text line = IsRefusedText source text line ⊎ IsNotBuilt source text line
 
 -- The two texts are those of a legal and complete order of the copying machine for the module that is read from the tree, with
--- the numbers of its variables.
-abbrev pub IsRun : Module → ℕ → List ℕ → List ℕ → Type 0
-IsRun tree reductions order report = (number_at : Span → ℕ) → AreNumbersOf number_at tree → IsRunOf (module_of number_at tree) reductions order report
+-- these numbers of its variables.
+abbrev pub IsRun : Module → List (List VarUse) → ℕ → List ℕ → List ℕ → Type 0
+IsRun tree numbers reductions order report = ∥ IsRunOf (module_of numbers tree) reductions order report ∥₁
 
 -- The module was run: all bytes that the order sink took are the text of a legal and complete order, and all that the
 -- report sink took are the module's report in that order.
@@ -102,7 +103,7 @@ pub record IsDone (reductions : ℕ) (source report order : Port) : Type 0 where
   pub read : IsAccepted source text tree
   pub order_text : List ℕ
   pub report_text : List ℕ
-  pub run : IsRun tree reductions order_text report_text
+  pub run : IsRun tree read.numbers reductions order_text report_text
   pub ordered : Took order order_text
   pub reported : Took report report_text
 
@@ -125,7 +126,7 @@ pub record IsOrderFault (reductions : ℕ) (source report order : Port) : Type 0
   pub read : IsAccepted source text tree
   pub order_text : List ℕ
   pub report_text : List ℕ
-  pub run : IsRun tree reductions order_text report_text
+  pub run : IsRun tree read.numbers reductions order_text report_text
   pub fault : Faulted order
   pub ordered : TookFront order order_text
   pub reported : Untouched report
@@ -137,7 +138,7 @@ pub record IsReportFaultOfRun (reductions : ℕ) (source report order : Port) : 
   pub read : IsAccepted source text tree
   pub order_text : List ℕ
   pub report_text : List ℕ
-  pub run : IsRun tree reductions order_text report_text
+  pub run : IsRun tree read.numbers reductions order_text report_text
   pub ordered : Took order order_text
   pub fault : Faulted report
   pub reported : TookFront report report_text
@@ -181,7 +182,7 @@ pub record IsTable (atoms : List (List ℕ)) : Type 0 where
 
 -- the two texts are those of a run of each module with such a tree
 abbrev pub RunsEach : Straight → ℕ → List ℕ → List ℕ → Type 0
-RunsEach straight reductions order report = (tree : Module) → IsTreeOf tree straight → IsTable tree.atoms → IsRun tree reductions order report
+RunsEach straight reductions order report = (tree : Module) (numbers : List (List VarUse)) → IsTreeOf tree straight → IsTable tree.atoms → AreNumbered tree.functions numbers → IsRunOf (module_of numbers tree) reductions order report
 
 -- the two sinks after a run that is written
 pub record IsWritten (straight : Straight) (reductions : ℕ) (report order : Port) : Type 0 where

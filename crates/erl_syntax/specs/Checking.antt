@@ -1,6 +1,6 @@
 -- Accepted modules, and the first fault of others (Erlang Reference Manual, "Modules", "Functions", "Expressions").
-use Rattle.std.specs.Prelude.{IsTrue, ◌≡◌, ◌≢◌, ℕ, pos, ◌<◌, Bool, true, List, [], ◌∷◌, ◌++◌, map, length, codes, All, ◌⊎◌, ◌↔◌}
-use Rattle.std.specs.List.{Contains}
+use Rattle.std.specs.Prelude.{◌≡◌, ◌≢◌, ℕ, pos, ◌<◌, Bool, true, ◌&&◌, cond, nat_eq, List, [], ◌∷◌, ◌++◌, map, length, codes, All, ◌⊎◌}
+use Rattle.std.specs.List.{Contains, filter, position_or_len}
 use Rattle.erl_syntax.specs.BuiltIns.{name_of, arity_of, is_for_guards, is_bare, home_of}
 use Rattle.erl_syntax.specs.Scopes.{Scope, Part, AnExpr, APattern, ASegment, Stands, Found, IsKnown, IsUnsafe}
 use Rattle.erl_syntax.specs.Typing.{HasFault, seg_faults}
@@ -157,58 +157,40 @@ abbrev pub RisingBy : {X : Type 0} → (X → Span) → List X → Type 0
 RisingBy at [] = Unit {0}
 RisingBy at (a ∷ bs) = All (λ b. IsBefore (at a) (at b)) bs × RisingBy at bs
 
--- the places at which variables get their values, in the order of the text
-pub data Binders : List Place → List Span → Type 0 where
-  ends : Binders [] []
-  binds : (a : Place) (more : List Place) (bound : List Span) → a.at ≡ a.bound_at → Binders more bound → Binders (a ∷ more) (a.at ∷ bound)
-  repeats : (a : Place) (more : List Place) (bound : List Span) → a.at ≢ a.bound_at → Binders more bound → Binders (a ∷ more) bound
+-- whether two places are one
+abbrev pub same_span : Span → Span → Bool
+same_span a b = nat_eq a.line b.line && nat_eq a.column b.column
 
--- The places of a function's variables, each once in the order of the text, and those at which they get their values.
-pub record HasPlaces (f : Function) (places : List Place) (bound : List Span) : Type 0 where
+-- The places of a function's variables, each once in the order of the text.
+pub record HasPlaces (f : Function) (places : List Place) : Type 0 where
   pub rising : RisingBy (λ a. a.at) places
   pub stand : All (IsPlace f) places
   pub whole : (a : Place) → IsPlace f a → Contains places a
-  pub binders : Binders places bound
+
+-- those at which variables get their values, in the order of the text
+abbrev pub binders : List Place → List Span
+binders places = map (λ a. a.at) (filter (λ a. same_span a.at a.bound_at) places)
 
 -- A variable's number is how many get their values further left in the function.
-pub record IsNumber (bound : List Span) (a : Place) (number : ℕ) : Type 0 where
-  pub front : List Span
-  pub back : List Span
-  pub stands : bound ≡ front ++ a.bound_at ∷ back
-  pub count : number ≡ length front
+abbrev pub number_of : List Span → Place → ℕ
+number_of bounds a = position_or_len (same_span a.bound_at) bounds
 
-pub record IsUse (bound : List Span) (a : Place) (u : VarUse) : Type 0 where
-  pub number : IsNumber bound a u.number
-  pub binds : IsTrue u.binds ↔ (a.at ≡ a.bound_at)
+-- a variable at its place, where variables get their values at these places
+abbrev pub use_at : List Span → Place → VarUse
+use_at bounds a = record { at = a.at; number = number_of bounds a; binds = same_span a.at a.bound_at }
 
-pub data Uses (bound : List Span) : List Place → List VarUse → Type 0 where
-  ends : Uses bound [] []
-  next : (a : Place) (u : VarUse) (more : List Place) (uses : List VarUse) → IsUse bound a u → Uses bound more uses → Uses bound (a ∷ more) (u ∷ uses)
-
--- the variables of a function, each place once
+-- The variables of a function: each where it stands, in the order of the text.
 pub record IsNumbered (f : Function) (uses : List VarUse) : Type 0 where
   pub places : List Place
-  pub bound : List Span
-  pub has : HasPlaces f places bound
-  pub uses_of : Uses bound places uses
+  pub has : HasPlaces f places
+  pub is : uses ≡ map (use_at (binders places)) places
 
--- those of all functions, one function behind another
-pub data AreNumbered : List Function → List VarUse → Type 0 where
+-- those of each function
+pub data AreNumbered : List Function → List (List VarUse) → Type 0 where
   none : AreNumbered [] []
-  and_then : (f : Function) (fs : List Function) (front back : List VarUse) → IsNumbered f front → AreNumbered fs back → AreNumbered (f ∷ fs) (front ++ back)
+  and_then : (f : Function) (fs : List Function) (uses : List VarUse) (more : List (List VarUse)) → IsNumbered f uses → AreNumbered fs more → AreNumbered (f ∷ fs) (uses ∷ more)
 
--- the variables of a function have these numbers at their places
-pub record AreNumbersIn (number_at : Span → ℕ) (f : Function) : Type 0 where
-  pub places : List Place
-  pub bound : List Span
-  pub has : HasPlaces f places bound
-  pub numbers : (a : Place) → IsPlace f a → IsNumber bound a (number_at a.at)
-
--- those of each function of a module
-abbrev pub AreNumbersOf : (Span → ℕ) → Module → Type 0
-AreNumbersOf number_at m = All (AreNumbersIn number_at) m.functions
-
--- the module's variables have numbers
-pub record HaveNumbers (m : Module) : Type 0 where
-  pub number_at : Span → ℕ
-  pub numbers : AreNumbersOf number_at m
+-- the number of a function's variable that stands at a place
+abbrev pub number_at : List VarUse → Span → ℕ
+number_at [] at = 0
+number_at (u ∷ uses) at = cond (same_span u.at at) u.number (number_at uses at)

@@ -50,9 +50,11 @@ pub struct CheckFault {
     pub why: CheckCause,
 }
 
-/// A variable where it stands in a module: its number in its function, and whether it gets its value here.
+/// A variable of a function: where it stands, its number in the function (how many get their values further left), and whether it gets
+/// its value here (Erlang Reference Manual, "Expressions": "Variables").
 #[derive(Clone, Copy, Debug, PartialEq, Eq)]
 pub struct VarUse {
+    pub at: Span,
     pub number: u32,
     pub binds: bool,
 }

@@ -1,16 +1,17 @@
 -- A module of today's form is read by the whole language as that module.
-use Rattle.std.proofs.Common.{◌≡◌, ℕ, pos, Bool, true, false, ◌&&◌, ◌||◌, nat_eq, List, [], ◌∷◌, ◌++◌, map, reverse, codes, All, refl, sym, ap, subst, ◌∙◌, arith, append_assoc, append-nil}
-use Rattle.std.specs.List.{Contains, AllByRecursion, flat_map}
+use Rattle.std.proofs.Common.{◌≡◌, ℕ, pos, Bool, true, false, ◌&&◌, ◌||◌, nat_eq, List, [], ◌∷◌, ◌++◌, map, reverse, codes, refl, sym, ap, subst, ◌∙◌, arith, append_assoc, append-nil}
+use Rattle.std.specs.List.{Contains, AllByRecursion, flat_map, zip}
 use Rattle.std.specs.Ordering.{int_eq}
 use Rattle.std.proofs.lemmas.Bool.Decides.{nat_tests}
 use Rattle.std.proofs.lemmas.List.{map-append}
 use Rattle.std.proofs.lemmas.List.Concat.{flat_map-cons}
 use Rattle.std.proofs.lemmas.Grind.{flat_map-append}
-use Rattle.std.proofs.lemmas.List.Elements.{All-head, Contains-append_left}
+use Rattle.std.proofs.lemmas.List.Elements.{Contains-append_left}
 use Rattle.erl_syntax.specs.Bindings.{Bound, names, targets_of, segment_targets}
 use Rattle.erl_syntax.specs.Scopes.{Scope, AnExpr, APattern, ABody, Stands, head_body, item_value, item_pattern, part, Parts, Found, IsKnown, nothing_known, with_known, behind, to_match, past_patterns, past_items, item_targets}
-use Rattle.erl_syntax.specs.Checking.{IsRead, Place, IsPlace, RisingBy, IsNumber, AreNumbersIn, AreNumbersOf}
+use Rattle.erl_syntax.specs.Checking.{IsRead, Place, IsPlace, RisingBy, AreNumbered, number_at}
 use Rattle.erl_syntax.specs.Reading.{StandOnce}
+use Rattle.erl_syntax.specs.declared.checking.VarUse.{VarUse}
 use Rattle.erl_syntax.specs.declared.span.Span.{Span}
 use Rattle.erl_syntax.specs.declared.expr.Expr.{Expr}
 use Rattle.erl_syntax.specs.declared.expr.Expr.TheVariants as x
@@ -22,7 +23,7 @@ use Rattle.erl_syntax.specs.declared.module.Clause as syntax_clause
 use Rattle.term_value.specs.Tree.{Clauses, clause, no_clause, no_pattern, never, or, end, Function}
 use Rattle.term_value.specs.Tree as tree
 use Rattle.term_value.specs.Read.{Reading, body, patterns}
-use Rattle.term_value.specs.ReadTrees.{line_of, pattern_of, guard_tree, function_clauses, function_of, is_exported, name_of, reading, module_of}
+use Rattle.term_value.specs.ReadTrees.{line_of, pattern_of, guard_tree, function_clauses, function_of, is_exported, name_of, reading, functions_of, module_of}
 use Rattle.term_value.proofs.CallLaws.{name_at}
 use Rattle.first_form.specs.Form.{IsItem, AreItems, IsStraight, bound_by}
 use Rattle.first_form.specs.Numbers.{IsReadAs}
@@ -31,7 +32,8 @@ use Rattle.first_form.specs.Whole.{line, module_by, AreApart}
 use Rattle.first_form.specs.declared.form.Field.{Field}
 use Rattle.first_form.specs.declared.form.Item.{Item}
 use Rattle.first_form.specs.declared.form.Straight.{Straight}
-use Rattle.first_form.proofs.Places.{among_head, place_in, found_in, place_before, Standing, standing, same_front, same_middle, rising_bound, same_name}
+use Rattle.first_form.proofs.Places.{among_head, place_in, found_in, place_before, Standing, standing, same_name}
+use Rattle.first_form.proofs.Numbered.{Alone, alone, agree_in, apart_in}
 use Rattle.first_form.proofs.NamesRead.{spelled_number, spelled_once}
 use Rattle.first_form.proofs.TreesRead.{AreNamed, match_read, display_read, no_guard_read}
 use Rattle.first_form.proofs.Walked.{sole, in_sole, AreFound, fields_found, IsBinder, fields_bind, match_targets, no_targets, known_past, item_names, items_names, items_places}
@@ -153,26 +155,12 @@ module _ (m : Module) (f : syntax_function.Function) (c : syntax_clause.Clause) 
 
 -- ---- The module
 
--- numbers at places: one variable, one number, and the other way round
-module _ (number_at : Span → ℕ) (f : syntax_function.Function) (numbers : AreNumbersIn number_at f) where
-  rising_in : RisingBy (λ a. a) numbers.bound
-  rising_in = rising_bound numbers.places numbers.bound numbers.has.binders numbers.has.rising
+module _ (numbers : List (List VarUse)) (m : Module) (s : Straight) (t : IsTreeOf m s) (formed : IsStraight s) (numbered : AreNumbered m.functions numbers) (once : StandOnce m.atoms) where
+  one : Alone t.function numbers
+  one = alone m.functions numbers t.function numbered t.functions
 
-  pub agree_in : (a b : Place) → IsPlace f a → IsPlace f b → a.bound_at ≡ b.bound_at → number_at a.at ≡ number_at b.at
-  agree_in a b h k e =
-      let n : IsNumber numbers.bound a (number_at a.at) = numbers.numbers a h in
-      let o : IsNumber numbers.bound b (number_at b.at) = numbers.numbers b k in
-      n.count ∙ same_front n.front a.bound_at n.back o.front b.bound_at o.back (subst (RisingBy (λ (z : Span). z)) n.stands rising_in) (sym n.stands ∙ o.stands) e ∙ sym o.count
-
-  pub apart_in : (a b : Place) → IsPlace f a → IsPlace f b → number_at a.at ≡ number_at b.at → a.bound_at ≡ b.bound_at
-  apart_in a b h k e =
-      let n : IsNumber numbers.bound a (number_at a.at) = numbers.numbers a h in
-      let o : IsNumber numbers.bound b (number_at b.at) = numbers.numbers b k in
-      same_middle n.front a.bound_at n.back o.front b.bound_at o.back (sym n.stands ∙ o.stands) (sym n.count ∙ e ∙ o.count)
-
-module _ (number_at : Span → ℕ) (m : Module) (s : Straight) (t : IsTreeOf m s) (formed : IsStraight s) (numbered : AreNumbersOf number_at m) (once : StandOnce m.atoms) where
-  numbers : AreNumbersIn number_at t.function
-  numbers = All-head (AreNumbersIn number_at) t.function [] (subst (All (AreNumbersIn number_at)) t.functions numbered)
+  abbrev number_there : Span → ℕ
+  number_there = number_at one.uses
 
   among : Contains t.function.clauses t.clause
   among = subst (λ cs. Contains cs t.clause) (sym t.clauses) (among_head t.clause [])
@@ -181,10 +169,10 @@ module _ (number_at : Span → ℕ) (m : Module) (s : Straight) (t : IsTreeOf m 
   binders = items_bind m t.function t.clause among t.no_patterns [] t.clause.body [] s.items t.places refl t.items formed.items refl
 
   abbrev number_in_module : ℕ → ℕ
-  number_in_module letter = number_at (place_in (flat_map item_targets t.clause.body) (sole letter))
+  number_in_module letter = number_there (place_in (flat_map item_targets t.clause.body) (sole letter))
 
-  lines : map (line_of (reading number_at m)) t.clause.body ≡ map (line number_in_module) s.items
-  lines = items_lines m t.function t.clause among t.no_patterns number_at (agree_in number_at t.function numbers) binders [] t.clause.body [] s.items t.places refl t.items formed.items refl
+  lines : map (line_of (reading number_there m)) t.clause.body ≡ map (line number_in_module) s.items
+  lines = items_lines m t.function t.clause among t.no_patterns number_there (agree_in t.function one.uses one.numbered) binders [] t.clause.body [] s.items t.places refl t.items formed.items refl
 
   apart : AreApart number_in_module s
   apart a b h k e =
@@ -195,14 +183,14 @@ module _ (number_at : Span → ℕ) (m : Module) (s : Straight) (t : IsTreeOf m 
       let q : Standing (IsBinder t.function) all (sole b) = standing (IsBinder t.function) all (sole b) binders (known b k) in
       let u : Place = record { at = p.one.at; bound_at = p.one.at } in
       let v : Place = record { at = q.one.at; bound_at = q.one.at } in
-      let same : p.one.at ≡ q.one.at = apart_in number_at t.function numbers u v p.holds q.holds (ap number_at p.at ∙ e ∙ sym (ap number_at q.at)) in
+      let same : p.one.at ≡ q.one.at = apart_in t.function one.uses one.numbered u v p.holds q.holds (ap number_there p.at ∙ e ∙ sym (ap number_there q.at)) in
       let rises : RisingBy (λ a. a) (map (λ b. b.at) all) = subst (RisingBy (λ (z : Span). z)) (sym (items_places m s.items t.places t.clause.body t.items)) t.rising in
-      let one : sole a ≡ sole b = same_name all (sole a) (sole b) rises (known a h) (known b k) (sym p.at ∙ same ∙ q.at) in
+      let same_letter : sole a ≡ sole b = same_name all (sole a) (sole b) rises (known a h) (known b k) (sym p.at ∙ same ∙ q.at) in
       cc
 
-  clauses_read : function_clauses (reading number_at m) t.function.clauses ≡ clause no_pattern (or end never) (body (map (line number_in_module) s.items)) no_clause
+  clauses_read : function_clauses (reading number_there m) t.function.clauses ≡ clause no_pattern (or end never) (body (map (line number_in_module) s.items)) no_clause
   clauses_read =
-      let r : Reading = reading number_at m in
+      let r : Reading = reading number_there m in
       ap (function_clauses r) t.clauses
       ∙ ap (λ ps. clause (patterns (map (pattern_of r) ps)) (guard_tree r t.clause.guard) (body (map (line_of r) t.clause.body)) no_clause) t.no_patterns
       ∙ ap (λ g. clause no_pattern g (body (map (line_of r) t.clause.body)) no_clause) (no_guard_read r t.clause.guard t.no_guard)
@@ -221,21 +209,21 @@ module _ (number_at : Span → ℕ) (m : Module) (s : Straight) (t : IsTreeOf m 
       ∙ ap (λ z. int_eq z (pos t.function.arity) || false) t.exported_arity
       ∙ ap (λ n. int_eq (pos 0) (pos n) || false) t.arity
 
-  function_read : function_of (reading number_at m) m.exports t.function
+  function_read : function_of (reading number_there m) m.exports t.function
       ≡ record { name = t.function.name; arity = 0; exported = true; clauses = clause no_pattern (or end never) (body (map (line number_in_module) s.items)) no_clause }
   function_read =
-      let of_arity : ℕ → Function = λ n. record { name = t.function.name; arity = n; exported = is_exported m.exports t.function.name t.function.arity; clauses = function_clauses (reading number_at m) t.function.clauses } in
-      let of_export : Bool → Function = λ b. record { name = t.function.name; arity = 0; exported = b; clauses = function_clauses (reading number_at m) t.function.clauses } in
+      let of_arity : ℕ → Function = λ n. record { name = t.function.name; arity = n; exported = is_exported m.exports t.function.name t.function.arity; clauses = function_clauses (reading number_there m) t.function.clauses } in
+      let of_export : Bool → Function = λ b. record { name = t.function.name; arity = 0; exported = b; clauses = function_clauses (reading number_there m) t.function.clauses } in
       let of_clauses : Clauses → Function = λ cs. record { name = t.function.name; arity = 0; exported = true; clauses = cs } in
       ap of_arity t.arity ∙ ap of_export exported ∙ ap of_clauses clauses_read
 
-  module_read : module_of number_at m ≡ module_by number_in_module m.atoms t.head.name t.function.name s
+  module_read : module_of numbers m ≡ module_by number_in_module m.atoms t.head.name t.function.name s
   module_read =
-      let of_name : ℕ → tree.Module = λ n. record { atoms = m.atoms; name = n; functions = map (function_of (reading number_at m) m.exports) m.functions } in
+      let of_name : ℕ → tree.Module = λ n. record { atoms = m.atoms; name = n; functions = functions_of numbers m } in
       let of_functions : List Function → tree.Module = λ fs. record { atoms = m.atoms; name = t.head.name; functions = fs } in
-      ap of_name (ap name_of t.heads) ∙ ap of_functions (ap (map (function_of (reading number_at m) m.exports)) t.functions ∙ ap (λ g. g ∷ []) function_read)
+      ap of_name (ap name_of t.heads) ∙ ap of_functions (ap (λ us. functions_of us m) one.is ∙ ap (λ fs. map (λ f. function_of (reading (number_at f.1) m) m.exports f.0) (zip fs (one.uses ∷ []))) t.functions ∙ ap (λ g. g ∷ []) function_read)
 
-  pub tree_read : IsReadAs number_at m s
+  pub tree_read : IsReadAs numbers m s
   tree_read = record {
     number = number_in_module;
     name = t.head.name;

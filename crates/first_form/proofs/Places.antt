@@ -6,7 +6,7 @@ use Rattle.std.proofs.lemmas.Slice.Eq.{bytes_eq-Decides}
 use Rattle.std.proofs.lemmas.List.Elements.{All-nil, All-cons, All-head, All-tail, All-contains, Contains-append_right, Contains-append_cases}
 use Rattle.erl_syntax.specs.Bindings.{Bound, names}
 use Rattle.erl_syntax.specs.Scopes.{Found, IsKnown}
-use Rattle.erl_syntax.specs.Checking.{IsBefore, Place, RisingBy, Binders}
+use Rattle.erl_syntax.specs.Checking.{IsBefore, RisingBy}
 use Rattle.erl_syntax.specs.declared.span.Span.{Span}
 
 -- ---- Lists
@@ -36,43 +36,6 @@ not_before a b e (inr k) = let h : a.column ≡ b.column = ap (λ (s : Span). s.
 
 pub not_among : (a b : Span) (places : List Span) → a ≡ b → All (IsBefore a) places → Contains places b → ⊥
 not_among a b places e h c = not_before a b e (All-contains (IsBefore a) places b h c)
-
-middle : (front : List Span) (x : Span) (back : List Span) → Contains (front ++ x ∷ back) x
-middle front x back = Contains-append_right front (x ∷ back) x (among_head x back)
-
--- a place stands once
-pub same_front : (front : List Span) (x : Span) (back other : List Span) (y : Span) (rest : List Span) → RisingBy (λ a. a) (front ++ x ∷ back) → front ++ x ∷ back ≡ other ++ y ∷ rest → x ≡ y → length front ≡ length other
-same_front [] x back [] y rest r e h = refl
-same_front [] x back (z ∷ other) y rest r e h =
-    let tail : back ≡ other ++ y ∷ rest = cc in
-    absurd (not_among x y back h r.0 (subst (λ zs. Contains zs y) (sym tail) (middle other y rest)))
-same_front (z ∷ front) x back [] y rest r e h =
-    let head : z ≡ y = cc in
-    absurd (not_among z x (front ++ x ∷ back) (head ∙ sym h) r.0 (middle front x back))
-same_front (z ∷ front) x back (w ∷ other) y rest r e h =
-    let tail : front ++ x ∷ back ≡ other ++ y ∷ rest = cc in
-    let n : length front ≡ length other = same_front front x back other y rest r.1 tail h in
-    ap suc n
-
-pub same_middle : (front : List Span) (x : Span) (back other : List Span) (y : Span) (rest : List Span) → front ++ x ∷ back ≡ other ++ y ∷ rest → length front ≡ length other → x ≡ y
-same_middle [] x back [] y rest e n = cc
-same_middle [] x back (z ∷ other) y rest e n = absurd (omega arith)
-same_middle (z ∷ front) x back [] y rest e n = absurd (omega arith)
-same_middle (z ∷ front) x back (w ∷ other) y rest e n =
-    let tail : front ++ x ∷ back ≡ other ++ y ∷ rest = cc in
-    same_middle front x back other y rest tail (omega arith)
-
-before_bound : (s : Span) (places : List Place) (bound : List Span) → Binders places bound → All (λ (b : Place). IsBefore s b.at) places → All (IsBefore s) bound
-before_bound s places bound Binders.ends h = All-nil (IsBefore s)
-before_bound s places bound (Binders.binds a more rest e b) h =
-    All-cons (IsBefore s) a.at rest (All-head (λ (b : Place). IsBefore s b.at) a more h) (before_bound s more rest b (All-tail (λ (b : Place). IsBefore s b.at) a more h))
-before_bound s places bound (Binders.repeats a more rest e b) h = before_bound s more rest b (All-tail (λ (b : Place). IsBefore s b.at) a more h)
-
--- the places at which variables get their values rise as all of them do
-pub rising_bound : (places : List Place) (bound : List Span) → Binders places bound → RisingBy (λ a. a.at) places → RisingBy (λ a. a) bound
-rising_bound places bound Binders.ends r = tt
-rising_bound places bound (Binders.binds a more rest e b) r = (before_bound a.at more rest b r.0, rising_bound more rest b r.1)
-rising_bound places bound (Binders.repeats a more rest e b) r = rising_bound more rest b r.1
 
 -- ---- Variables
 

@@ -13,7 +13,7 @@ mod trees;
 mod words;
 
 pub use form::{Field, Item, Part, Straight};
-pub use numbers::{forms_have_trees, trees_are_read, trees_have_numbers};
+pub use numbers::{forms_have_trees, trees_are_read, trees_have_one_reading};
 pub use straight::straight_of;
 
 #[cfg(test)]

@@ -1,4 +1,4 @@
-use crate::{Item, forms_have_trees, straight_of, trees_are_read, trees_have_numbers};
+use crate::{Item, forms_have_trees, straight_of, trees_are_read, trees_have_one_reading};
 use erl_syntax::{
     Clause, Expr, Function, Guard, Head, Item as Line, Listed, Module, Name, Pattern, Segment,
     Span, Text,
@@ -107,7 +107,7 @@ fn a_module_of_the_form_is_found(rt: HostRuntime) -> Result<(), Fail> {
     let alloc = rt.alloc();
     forms_have_trees();
     trees_are_read();
-    trees_have_numbers();
+    trees_have_one_reading();
     let straight = straight_of(alloc, TEXT, &tree(alloc, 0)?)?.ok_or("not of the form")?;
     assert_eq!(rt; straight.name.bytes(), b"m".as_slice());
     let [Item::Match { fields, parts }] = straight.items.items() else {

@@ -1,6 +1,6 @@
 -- The numbers of variables.
 use Rattle.std.proofs.Common.{◌≡◌, ℕ, suc, ◌+◌, ◌<◌, ◌≤◌, Bool, true, false, cond, List, [], ◌∷◌, ◌++◌, map, length, get_or, take, drop, refl, sym, ◌∙◌, ap, subst, ◌⊎◌, inl, inr, arith, ◌↔◌}
-use Rattle.std.specs.List.{Contains, All, AllByRecursion}
+use Rattle.std.specs.List.{Contains, All, AllByRecursion, filter, position_or_len}
 use Rattle.std.specs.List.Sorted.{IsStrictlySortedBy, IsSortedBy, IsNonDecreasingBy, IsPartitionPoint}
 use Rattle.std.specs.declared.cmp.Ordering.{Ordering}
 use Rattle.std.specs.declared.cmp.Ordering.TheVariants.{Less, Equal, Greater}
@@ -8,11 +8,13 @@ use Rattle.std.specs.Ordering.{nat_cmp, ordering_then, ordering_reverse, orderin
 use Rattle.std.proofs.Math.Seq.{split_at}
 use Rattle.std.proofs.lemmas.Bool.Decides.{leb_tells}
 use Rattle.std.proofs.lemmas.Cmp.{ranked, tied_itself}
+use Rattle.std.proofs.Math.ListN.{get_or-map}
 use Rattle.std.proofs.lemmas.List.{append-nil, append_assoc, map-append, length-map, length-take-le, take_more, take_all}
 use Rattle.std.proofs.lemmas.List.Elements.{All-nil, All-cons, Contains-append_right, Contains-append_cases}
 use Rattle.std.proofs.lemmas.List.Sorted.{searchable_from_sorted}
+use Rattle.std.proofs.lemmas.List.Sums.{position_or_len_is}
 use Rattle.std.proofs.lemmas.Map.Keys.{sorted_head, sorted_tail, Less-from_sorted}
-use Rattle.erl_syntax.specs.Checking.{IsBefore, Place, IsPlace, RisingBy, Binders, binds, repeats, IsUse, Uses, IsNumbered, AreNumbered}
+use Rattle.erl_syntax.specs.Checking.{IsBefore, Place, IsPlace, RisingBy, same_span, binders, number_of, use_at, IsNumbered, AreNumbered}
 use Rattle.erl_syntax.specs.declared.span.Span.{Span}
 use Rattle.erl_syntax.specs.declared.module.Function.{Function}
 use Rattle.erl_syntax.specs.declared.checking.VarUse.{VarUse}
@@ -116,14 +118,14 @@ has_binder (x ∷ xs) o h e = elim (Contains-append_cases (x ∷ []) xs o h) [
   | inr k ↦ Contains-append_right (binder_in x) (binders_in xs) o.at (has_binder xs o k e)
 ]
 
-pub binders_are : (os : List Occurrence) → Binders (map seen os) (map span_of (binders_in os))
-binders_are [] = Binders.ends
-binders_are (o ∷ os) =
-    let P : Bool → Type 0 = λ t. Binders (map seen (o ∷ os)) (map span_of (cond t (o.at ∷ []) [] ++ binders_in os)) in
-    elim (test (same_position o.at o.bound_at)) [
-      | inl e ↦ subst P (sym e) (binds (seen o) (map seen os) (map span_of (binders_in os)) (ap span_of (position_is o.at o.bound_at e)) (binders_are os))
-      | inr e ↦ subst P (sym e) (repeats (seen o) (map seen os) (map span_of (binders_in os)) (λ k. let t : true ≡ false = sym (position_same o.at o.bound_at (ap position_of k)) ∙ e in cc) (binders_are os))
-    ]
+one_binder : (t : Bool) (o : Occurrence) (places : List Place) (bs : List Position) → map (λ (a : Place). a.at) places ≡ map span_of bs
+    → map (λ (a : Place). a.at) (cond t (seen o ∷ places) places) ≡ map span_of (cond t (o.at ∷ []) [] ++ bs)
+one_binder true o places bs h = ap (λ zs. span_of o.at ∷ zs) h
+one_binder false o places bs h = h
+
+pub binders_are : (os : List Occurrence) → binders (map seen os) ≡ map span_of (binders_in os)
+binders_are [] = refl
+binders_are (o ∷ os) = one_binder (same_position o.at o.bound_at) o (filter (λ (a : Place). same_span a.at a.bound_at) (map seen os)) (binders_in os) (binders_are os)
 
 -- a search among places that rise
 module _ (bs : List Position) (b : Position) where
@@ -149,42 +151,50 @@ module _ (bs : List Position) (b : Position) where
         | inr t ↦ unlike Less (λ z. cc) (get_or bs k b) e (p.0 k b (omega arith) (omega arith))
       ]
 
--- what a variable's number says
-pub use_is : (bs : List Position) (o : Occurrence) (u : VarUse) → IsIndex bs o.bound_at u.number → u.binds ≡ same_position o.at o.bound_at → IsUse (map span_of bs) (seen o) u
-use_is bs o u n e =
-    let i = u.number in
-    let cut : bs ≡ take i bs ++ o.bound_at ∷ drop (suc i) bs = split_at bs i o.bound_at n.0 ∙ ap (λ z. take i bs ++ z ∷ drop (suc i) bs) n.1 in
-    record {
-      number = record {
-        front = map span_of (take i bs);
-        back = map span_of (drop (suc i) bs);
-        stands = ap (map span_of) cut ∙ map-append span_of (take i bs) (o.bound_at ∷ drop (suc i) bs);
-        count = sym (length-map (take i bs) span_of ∙ length-take-le i bs (omega (arith, n.0)));
-      };
-      binds = (λ t. ap span_of (position_is o.at o.bound_at (sym e ∙ t)), λ k. e ∙ position_same o.at o.bound_at (ap position_of k));
-    }
+-- the place of a position among those that rise is the first at which it stands
+module _ (bs : List Position) (b : Position) (n : ℕ) (s : IsStrictlySortedBy position_cmp bs) (h : IsIndex bs b n) where
+  earlier : (k : ℕ) → k < n → same_position b (get_or bs k b) ≡ false
+  earlier k l =
+      let less : position_cmp (get_or bs k b) (get_or bs n b) ≡ Less = Less-from_sorted position_cmp bs k n b s l h.0 in
+      elim (test (same_position b (get_or bs k b))) [
+        | inl e ↦ (let P : Position → Type 0 = λ z. position_cmp z b ≡ Less in
+            let l : position_cmp b b ≡ Less = subst P (sym (position_is b (get_or bs k b) e)) (subst (λ z. position_cmp (get_or bs k b) z ≡ Less) h.1 less) in
+            let t : Equal ≡ Less = sym (tied_itself position_total b) ∙ l in cc)
+        | inr e ↦ e
+      ]
 
-pub uses_more : (bound : List Span) (places : List Place) (a : Place) (us : List VarUse) (u : VarUse) → Uses bound places us → IsUse bound a u → Uses bound (places ++ a ∷ []) (us ++ u ∷ [])
-uses_more bound _ a _ u (Uses.ends) k = Uses.next a u [] [] k Uses.ends
-uses_more bound _ a _ u (Uses.next o v more us h t) k = Uses.next o v (more ++ a ∷ []) (us ++ u ∷ []) h (uses_more bound more a us u t k)
+  pub index_first : position_or_len (same_span (span_of b)) (map span_of bs) ≡ n
+  index_first =
+      position_or_len_is (same_span (span_of b)) (map span_of bs) n (span_of b) (omega (arith, h.0, length-map bs span_of))
+      (λ k l. ap (same_span (span_of b)) (get_or-map span_of bs k b) ∙ earlier k l)
+      (λ l. ap (same_span (span_of b)) (get_or-map span_of bs n b) ∙ ap (same_position b) h.1 ∙ position_same b b refl)
 
 -- one behind another
 map_taken : (os : List Occurrence) (i : ℕ) (o : Occurrence) → i < length os → o ≡ get_or os i o → map seen (take (i + 1) os) ≡ map seen (take i os) ++ seen o ∷ []
 map_taken os i o l e = ap (map seen) (take_more os i o l ∙ ap (λ z. take i os ++ z ∷ []) (sym e)) ∙ map-append seen (take i os) (o ∷ [])
 
+-- what a variable's number says
+pub use_is : (bs : List Position) (o : Occurrence) (u : VarUse) → IsStrictlySortedBy position_cmp bs → IsIndex bs o.bound_at u.number → u.binds ≡ same_position o.at o.bound_at → u.at ≡ span_of o.at
+    → u ≡ use_at (map span_of bs) (seen o)
+use_is bs o u s n e p =
+    let on_place : Span → VarUse = λ z. record { at = z; number = u.number; binds = u.binds } in
+    let on_number : ℕ → VarUse = λ z. record { at = span_of o.at; number = z; binds = u.binds } in
+    let on_binds : Bool → VarUse = λ z. record { at = span_of o.at; number = number_of (map span_of bs) (seen o); binds = z } in
+    ap on_place p ∙ ap on_number (sym (index_first bs o.bound_at u.number s n)) ∙ ap on_binds e
+
 pub uses_on : (bs : List Position) (os : List Occurrence) (i : ℕ) (o : Occurrence) (us new : List VarUse) (u : VarUse) → i < length os → o ≡ get_or os i o → new ≡ us ++ u ∷ []
-    → (IsStrictlySortedBy position_cmp bs → Contains bs o.bound_at → IsUse (map span_of bs) (seen o) u)
-    → (IsStrictlySortedBy position_cmp bs → ((o : Occurrence) → Contains os o → Contains bs o.bound_at) → Uses (map span_of bs) (map seen (take i os)) us)
-    → IsStrictlySortedBy position_cmp bs → ((o : Occurrence) → Contains os o → Contains bs o.bound_at) → Uses (map span_of bs) (map seen (take (i + 1) os)) new
+    → (IsStrictlySortedBy position_cmp bs → Contains bs o.bound_at → u ≡ use_at (map span_of bs) (seen o))
+    → (IsStrictlySortedBy position_cmp bs → ((o : Occurrence) → Contains os o → Contains bs o.bound_at) → us ≡ map (use_at (map span_of bs)) (map seen (take i os)))
+    → IsStrictlySortedBy position_cmp bs → ((o : Occurrence) → Contains os o → Contains bs o.bound_at) → new ≡ map (use_at (map span_of bs)) (map seen (take (i + 1) os))
 uses_on bs os i o us new u l e n k h s c =
-    let P : List Place → Type 0 = λ zs. Uses (map span_of bs) zs new in
-    let Q : List VarUse → Type 0 = λ zs. Uses (map span_of bs) (map seen (take i os) ++ seen o ∷ []) zs in
-    subst P (sym (map_taken os i o l e)) (subst Q (sym n) (uses_more (map span_of bs) (map seen (take i os)) (seen o) us u (h s c) (k s (c o (i, l, sym e)))))
+    let one : Place → VarUse = use_at (map span_of bs) in
+    n ∙ ap (λ z. us ++ z ∷ []) (k s (c o (i, l, sym e))) ∙ ap (λ zs. zs ++ one (seen o) ∷ []) (h s c)
+    ∙ sym (map-append one (map seen (take i os)) (seen o ∷ [])) ∙ ap (map one) (sym (map_taken os i o l e))
 
 pub uses_end : (bs : List Position) (os : List Occurrence) (i : ℕ) (us : List VarUse) → length os ≤ i
-    → (IsStrictlySortedBy position_cmp bs → ((o : Occurrence) → Contains os o → Contains bs o.bound_at) → Uses (map span_of bs) (map seen (take i os)) us)
-    → IsStrictlySortedBy position_cmp bs → ((o : Occurrence) → Contains os o → Contains bs o.bound_at) → Uses (map span_of bs) (map seen os) us
-uses_end bs os i us l h s c = let P : List Occurrence → Type 0 = λ zs. Uses (map span_of bs) (map seen zs) us in subst P (take_all i os l) (h s c)
+    → (IsStrictlySortedBy position_cmp bs → ((o : Occurrence) → Contains os o → Contains bs o.bound_at) → us ≡ map (use_at (map span_of bs)) (map seen (take i os)))
+    → IsStrictlySortedBy position_cmp bs → ((o : Occurrence) → Contains os o → Contains bs o.bound_at) → us ≡ map (use_at (map span_of bs)) (map seen os)
+uses_end bs os i us l h s c = h s c ∙ ap (λ zs. map (use_at (map span_of bs)) (map seen zs)) (take_all i os l)
 
 pub binders_more : (os : List Occurrence) (i : ℕ) (o : Occurrence) (bs new : List Position) (t : Bool) → i < length os → o ≡ get_or os i o → t ≡ same_position o.at o.bound_at → new ≡ bs ++ cond t (o.at ∷ []) [] → bs ≡ binders_in (take i os) → new ≡ binders_in (take (i + 1) os)
 binders_more os i o bs new t l e g n h =
@@ -212,35 +222,33 @@ module _ (f : Function) (found os : List Occurrence) (all : AreAll (InnerPlace f
     | inr k ↦ Contains-tail (seen x) (map seen xs) (seen o) (in_map xs o k)
   ]
 
-  numbered_by : (us : List VarUse) → IsStrictlySortedBy occurrence_cmp os → Uses (map span_of (binders_in os)) (map seen os) us → IsNumbered f us
+  numbered_by : (us : List VarUse) → IsStrictlySortedBy occurrence_cmp os → us ≡ map (use_at (map span_of (binders_in os))) (map seen os) → IsNumbered f us
   numbered_by us s u = record {
     places = map seen os;
-    bound = map span_of (binders_in os);
     has = record {
       rising = rising os s apart;
       stand = all_places os is_place;
       whole = λ a h. in_map os (kept a) (has_place a h);
-      binders = binders_are os;
     };
-    uses_of = u;
+    is = u ∙ ap (λ (bound : List Span). map (use_at bound) (map seen os)) (sym (binders_are os));
   }
 
 pub numbered : (f : Function) (found os : List Occurrence) (bs : List Position) (us : List VarUse) → AreAll (InnerPlace f) found → IsStrictlySortedBy occurrence_cmp os → ((o : Occurrence) → Contains found o ↔ Contains os o) → bs ≡ binders_in os
-    → (IsStrictlySortedBy position_cmp bs → ((o : Occurrence) → Contains os o → Contains bs o.bound_at) → Uses (map span_of bs) (map seen os) us) → Apart os → IsNumbered f us
+    → (IsStrictlySortedBy position_cmp bs → ((o : Occurrence) → Contains os o → Contains bs o.bound_at) → us ≡ map (use_at (map span_of bs)) (map seen os)) → Apart os → IsNumbered f us
 numbered f found os bs us all s same e u apart =
-    let P : List Position → Type 0 = λ zs. IsStrictlySortedBy position_cmp zs → ((o : Occurrence) → Contains os o → Contains zs o.bound_at) → Uses (map span_of zs) (map seen os) us in
+    let P : List Position → Type 0 = λ zs. IsStrictlySortedBy position_cmp zs → ((o : Occurrence) → Contains os o → Contains zs o.bound_at) → us ≡ map (use_at (map span_of zs)) (map seen os) in
     numbered_by f found os all same apart us s (subst P e u (sorted_binders os s apart) (has_binders f found os all same apart))
 
 -- those of several functions
-functions_more : (fs : List Function) (f : Function) (vs us : List VarUse) → AreNumbered fs vs → IsNumbered f us → AreNumbered (fs ++ f ∷ []) (vs ++ us)
-functions_more _ f _ us (AreNumbered.none) n = (let P : List VarUse → Type 0 = λ zs. AreNumbered (f ∷ []) zs in subst P (append-nil us) (AreNumbered.and_then f [] us [] n AreNumbered.none))
-functions_more _ f _ us (AreNumbered.and_then g fs front back h k) n = (let P : List VarUse → Type 0 = λ zs. AreNumbered (g ∷ (fs ++ f ∷ [])) zs in subst P (sym (append_assoc front back us)) (AreNumbered.and_then g (fs ++ f ∷ []) front (back ++ us) h (functions_more fs f back us k n)))
+functions_more : (fs : List Function) (f : Function) (vs : List (List VarUse)) (us : List VarUse) → AreNumbered fs vs → IsNumbered f us → AreNumbered (fs ++ f ∷ []) (vs ++ us ∷ [])
+functions_more _ f _ us (AreNumbered.none) n = AreNumbered.and_then f [] us [] n AreNumbered.none
+functions_more _ f _ us (AreNumbered.and_then g fs front back h k) n = AreNumbered.and_then g (fs ++ f ∷ []) front (back ++ us ∷ []) h (functions_more fs f back us k n)
 
-pub functions_on : (fs gs : List Function) (i : ℕ) (f : Function) (vs new us : List VarUse) → gs ≡ fs → i < length gs → f ≡ get_or gs i f → new ≡ vs ++ us → IsNumbered f us → AreNumbered (take i gs) vs → AreNumbered (take (i + 1) gs) new
+pub functions_on : (fs gs : List Function) (i : ℕ) (f : Function) (vs new : List (List VarUse)) (us : List VarUse) → gs ≡ fs → i < length gs → f ≡ get_or gs i f → new ≡ vs ++ us ∷ [] → IsNumbered f us → AreNumbered (take i gs) vs → AreNumbered (take (i + 1) gs) new
 functions_on fs gs i f vs new us g l e n k h =
     let P : List Function → Type 0 = λ zs. AreNumbered zs new in
-    let Q : List VarUse → Type 0 = λ zs. AreNumbered (take i gs ++ f ∷ []) zs in
+    let Q : List (List VarUse) → Type 0 = λ zs. AreNumbered (take i gs ++ f ∷ []) zs in
     subst P (sym (take_more gs i f l ∙ ap (λ z. take i gs ++ z ∷ []) (sym e))) (subst Q (sym n) (functions_more (take i gs) f vs us h k))
 
-pub functions_end : (fs gs : List Function) (i : ℕ) (vs : List VarUse) → gs ≡ fs → length gs ≤ i → AreNumbered (take i gs) vs → AreNumbered fs vs
+pub functions_end : (fs gs : List Function) (i : ℕ) (vs : List (List VarUse)) → gs ≡ fs → length gs ≤ i → AreNumbered (take i gs) vs → AreNumbered fs vs
 functions_end fs gs i vs g l h = let P : List Function → Type 0 = λ zs. AreNumbered zs vs in subst P (take_all i gs l ∙ g) h

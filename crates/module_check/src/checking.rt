@@ -9,7 +9,7 @@ use crate::index::Indexed;
 use crate::numbers::vars;
 use crate::order::first_of;
 use crate::walk::inner_fault;
-use erl_syntax::{CheckCause, CheckFault, Module, Span, VarUse};
+use erl_syntax::{CheckCause, CheckFault, Listed, Module, Span, VarUse};
 use std::alloc::{AllocError, Global};
 
 /// The first fault of the function at this place among the module's.
@@ -57,7 +57,7 @@ fn any_fault(alloc: Global, tree: &Module) -> Result<Option<CheckFault>, AllocEr
 #[derive(Debug, Drop)]
 pub struct Checked {
     tree: Module,
-    vars: Vec<VarUse>,
+    vars: Vec<Listed<VarUse>>,
     ghost accepted: { IsAccepted tree },
     ghost numbered: { ∥ AreNumbered tree.functions vars.items ∥₁ },
 }
@@ -71,9 +71,9 @@ impl Checked {
         &self.tree
     }
 
-    /// The variables of the module's functions but `_`, in the order of the text, one function behind another: each variable's
-    /// number in its function, which is how many get their values further left, and whether it gets its value here.
-    pub fn vars(&self) -> &[VarUse]
+    /// The variables of each of the module's functions but `_`, in the order of the text: where each stands, its number in its
+    /// function, which is how many get their values further left, and whether it gets its value here.
+    pub fn vars(&self) -> &[Listed<VarUse>]
         ensures { ∥ AreNumbered self.now.tree.functions result.now ∥₁ }
     {
         &self.vars

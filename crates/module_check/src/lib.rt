@@ -6,6 +6,7 @@ mod calls;
 mod checking;
 mod forms;
 mod index;
+mod laws;
 mod names;
 mod numbers;
 mod order;
@@ -20,6 +21,7 @@ mod walk;
 pub use built_ins::built_in;
 pub use calls::is_spelled;
 pub use checking::{Checked, check};
+pub use laws::{one_list_of_uses, one_numbering};
 pub use names::{has_function, is_before, is_exported};
 pub use order::first_of;
 

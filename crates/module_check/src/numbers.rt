@@ -3,13 +3,13 @@
 ghost use Rattle.std.specs.Prelude.{◌≡◌, ◌<◌, ◌↔◌, IfOk, MatchBool, List, map, length, get_or};
 ghost use Rattle.std.specs.List.{Contains};
 ghost use Rattle.std.specs.List.Sorted.{IsStrictlySortedBy};
-ghost use Rattle.erl_syntax.specs.Checking.{IsUse, Uses, IsNumbered, AreNumbered};
+ghost use Rattle.erl_syntax.specs.Checking.{IsNumbered, AreNumbered, use_at};
 ghost use Rattle.module_check.specs.declared.places.Occurrence.{Occurrence};
 ghost use Rattle.module_check.specs.Places.{span_of, seen, Apart};
 ghost use Rattle.module_check.specs.Numbers.{position_cmp, occurrence_cmp, binders_in};
 
 use crate::places::{Occurrence, Position, places};
-use erl_syntax::{Function, Module, VarUse};
+use erl_syntax::{Function, Listed, Module, Span, VarUse};
 use std::alloc::{AllocError, Global};
 
 /// The variables in the order of the text, each once.
@@ -63,9 +63,13 @@ fn number_of(binders: &[Position], bound_at: Position) -> Result<u32, AllocError
 }
 
 fn use_of(binders: &[Position], occurrence: &Occurrence) -> Result<VarUse, AllocError>
-    ensures { IfOk result (λ u. IsStrictlySortedBy position_cmp binders.now → Contains binders.now occurrence.now.bound_at → IsUse (map span_of binders.now) (seen occurrence.now) u) }
+    ensures { IfOk result (λ u. IsStrictlySortedBy position_cmp binders.now → Contains binders.now occurrence.now.bound_at → u ≡ use_at (map span_of binders.now) (seen occurrence.now)) }
 {
     Ok(VarUse {
+        at: Span {
+            line: occurrence.at.line,
+            column: occurrence.at.column,
+        },
         number: number_of(binders, occurrence.bound_at)?,
         binds: occurrence.at == occurrence.bound_at,
     })
@@ -76,7 +80,7 @@ fn uses_of(
     binders: &[Position],
     occurrences: &[Occurrence],
 ) -> Result<Vec<VarUse>, AllocError>
-    ensures { IfOk result (λ us. IsStrictlySortedBy position_cmp binders.now → ((o : Occurrence) → Contains occurrences.now o → Contains binders.now o.bound_at) → Uses (map span_of binders.now) (map seen occurrences.now) us.items) }
+    ensures { IfOk result (λ us. IsStrictlySortedBy position_cmp binders.now → ((o : Occurrence) → Contains occurrences.now o → Contains binders.now o.bound_at) → us.items ≡ map (use_at (map span_of binders.now)) (map seen occurrences.now)) }
 {
     let mut uses = Vec::new(alloc);
     for occurrence in occurrences {
@@ -100,15 +104,15 @@ fn function_vars(alloc: Global, function: &Function) -> Result<Vec<VarUse>, Allo
     uses_of(alloc, &binders, &occurrences)
 }
 
-/// The numbers of a module's variables, one function behind another.
-pub(crate) fn vars(alloc: Global, tree: &Module) -> Result<Vec<VarUse>, AllocError>
+/// The numbers of the variables of each function of a module.
+pub(crate) fn vars(alloc: Global, tree: &Module) -> Result<Vec<Listed<VarUse>>, AllocError>
     ensures { IfOk result (λ us. AreNumbered tree.now.functions us.items) }
 {
     let mut vars = Vec::new(alloc);
     let functions = tree.functions.items();
     for function in functions {
-        let more = function_vars(alloc, function)?;
-        vars.extend_from_slice(&more)?;
+        let uses = function_vars(alloc, function)?;
+        vars.push(Listed::of(uses))?;
     }
     Ok(vars)
 }

@@ -78,16 +78,29 @@ fn module(alloc: Global, column: u32) -> Result<Module, AllocError> {
     })
 }
 
-fn variable(number: u32, binds: bool) -> VarUse {
-    VarUse { number, binds }
+fn variable(column: u32, number: u32, binds: bool) -> VarUse {
+    VarUse {
+        at: at(column),
+        number,
+        binds,
+    }
 }
 
 #[test]
 fn variables_are_numbered_by_their_places(rt: HostRuntime) -> Result<(), Fail> {
     let alloc = rt.alloc();
-    let wanted = [variable(0, true), variable(1, true), variable(0, false)];
+    let wanted = [
+        variable(11, 0, true),
+        variable(18, 1, true),
+        variable(22, 0, false),
+    ];
     match check(alloc, module(alloc, 22)?) {
-        Ok(checked) => assert_eq!(rt; checked.vars(), wanted.as_slice()),
+        Ok(checked) => {
+            for uses in checked.vars() {
+                assert_eq!(rt; uses.items(), wanted.as_slice());
+            }
+            assert_eq!(rt; checked.vars().len(), 1);
+        }
         Err(fault) => assert_eq!(rt; Some(fault), None),
     }
     Ok(())

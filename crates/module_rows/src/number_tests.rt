@@ -9,10 +9,12 @@ fn numbers(alloc: Global, text: &[u8]) -> Result<Option<String>, AllocError> {
         return Ok(None);
     };
     let mut told = String::new(alloc);
-    for variable in checked.vars() {
-        let mark = if variable.binds { "!" } else { "" };
-        let one = format!(in alloc; " {}{mark}", variable.number)?;
-        told.push_str(one.as_str())?;
+    for variables in checked.vars() {
+        for variable in variables.items() {
+            let mark = if variable.binds { "!" } else { "" };
+            let one = format!(in alloc; " {}{mark}", variable.number)?;
+            told.push_str(one.as_str())?;
+        }
     }
     Ok(Some(told))
 }

@@ -20,4 +20,5 @@ pub mod Shrinks
 pub mod SmallNumbers
 pub mod Smaller
 pub mod Spellings
+pub mod WorkedModules
 pub mod WorkedRows

@@ -2,7 +2,7 @@ use Rattle.std.proofs.Common.{◌≤◌, length, codes, refl, ap, sym, ◌∙◌
 use Rattle.erl_syntax.specs.declared.module.Module.{Module}
 use Rattle.first_form.specs.TreeOf.{IsForm, IsTreeOf}
 use Rattle.bits_top.specs.Answer.{IsTable}
-use Rattle.bits_top.proofs.Answers.{refusal_answers, accepted_answers, form_of, held_long, none_built, numbered_tree, only_of, unaccepted, whole_of}
+use Rattle.bits_top.proofs.Answers.{refusal_answers, accepted_answers, form_of, held_long, none_built, only_of, unaccepted, whole_of}
 use Rattle.bits_top.proofs.program.run_module.Goals as goal
 
 pub returns-then-len : goal.returns-then-len
@@ -42,6 +42,5 @@ returns-in-Ok-Some g c =
     let form = form_of c.deref-2.result.now c.in-Ok.text.items straight c.deref-2.ensures.value found.0 in
     let of = subst (λ (m : Module). IsTreeOf m straight) c.module.ensures.same found.1 in
     let table : IsTable tree.atoms = record { others = c.in-Ok-accept.ensures.fixed.0; fixed = c.in-Ok-accept.ensures.fixed.1; once = c.in-Ok-accept.ensures.once } in
-    let numbered = numbered_tree tree straight c.in-Ok-accept.checked.vars.items of c.in-Ok-accept.checked.numbered in
-    accepted_answers c.answer.result c.args.reductions c.in-Ok.text.items tree _ _ _ (record { whole = whole; numbered = numbered; straight = straight; form = form }) of table
+    accepted_answers c.answer.result c.args.reductions c.in-Ok.text.items tree _ _ _ (record { whole = whole; numbers = c.in-Ok-accept.checked.vars.items; numbered = c.in-Ok-accept.checked.numbered; straight = straight; form = form }) of table
     c.answer.ensures

@@ -4,6 +4,6 @@ use Rattle.bits_top.proofs.SameRead.{same_run_read}
 use Rattle.bits_top.proofs.program.texts_of.Goals as goal
 
 pub returns : goal.returns
-returns c = λ tree of table number_at numbers.
-    same_run_read number_at tree table.others c.args.straight.now c.args.reductions c.in_ok-outcome.outcome _ _ (tree_read number_at tree c.args.straight.now of c.requires.formed numbers table.once) table.fixed
+returns c = λ tree numbers of table numbered.
+    same_run_read numbers tree table.others c.args.straight.now c.args.reductions c.in_ok-outcome.outcome _ _ (tree_read numbers tree c.args.straight.now of c.requires.formed numbered table.once) table.fixed
     c.requires.formed c.requires.short c.requires.some (search rules) (search rules) (search rules)

@@ -1,15 +1,12 @@
-use Rattle.std.proofs.Common.{◌<◌, List, [], map, length, get_or, sym, subst, arith}
+use Rattle.std.proofs.Common.{◌<◌, length, get_or, arith}
 use Rattle.std.proofs.lemmas.List.{get_or_default}
-use Rattle.erl_syntax.specs.Checking.{Uses}
-use Rattle.erl_syntax.specs.declared.checking.VarUse.{VarUse}
 use Rattle.module_check.specs.declared.places.Position.{Position}
 use Rattle.module_check.specs.declared.places.Occurrence.{Occurrence}
-use Rattle.module_check.specs.Places.{span_of}
 use Rattle.module_check.proofs.Numbered.{uses_on, uses_end}
 use Rattle.module_check.proofs.numbers.uses_of.Goals as goal
 
 pub loop-occurrence-init : goal.loop-occurrence-init
-loop-occurrence-init c = λ s h. (let P : List VarUse → Type 0 = λ us. Uses (map span_of c.args.binders.now) [] us in subst P (sym c.new-uses.ensures.items) Uses.ends)
+loop-occurrence-init c = λ s h. c.new-uses.ensures.items
 
 pub loop-occurrence-preserved : goal.loop-occurrence-preserved
 loop-occurrence-preserved c =
