@@ -30,7 +30,7 @@ refusal_answers Done reductions text line source report order read same h = absu
 refusal_answers Usage reductions text line source report order read same h = h
 refusal_answers ReadFault reductions text line source report order read same h = absurd h
 refusal_answers OrderFault reductions text line source report order read same h = absurd h
-refusal_answers NoMemory reductions text line source report order read same h = tt
+refusal_answers NoMemory reductions text line source report order read same h = absurd h
 refusal_answers BadOrder reductions text line source report order read same h = h
 
 pub accepted_answers : (status : Status) (reductions : ℕ) (text : List ℕ) (tree : Module) (source report order : Port) → (read : IsAccepted source text tree) → IsTreeOf tree read.straight → IsTable tree.atoms →
@@ -44,7 +44,7 @@ accepted_answers ReportFault reductions text tree source report order read of ta
 accepted_answers Refused reductions text tree source report order read of table h = absurd h
 accepted_answers Usage reductions text tree source report order read of table h = h
 accepted_answers ReadFault reductions text tree source report order read of table h = absurd h
-accepted_answers NoMemory reductions text tree source report order read of table h = tt
+accepted_answers NoMemory reductions text tree source report order read of table h = h
 accepted_answers BadOrder reductions text tree source report order read of table h = h
 
 -- what was read to the end is all that the source held
@@ -184,7 +184,7 @@ found_answers Refused text m source report w h = absurd h
 found_answers Usage text m source report w h = h
 found_answers ReadFault text m source report w h = absurd h
 found_answers OrderFault text m source report w h = h
-found_answers NoMemory text m source report w h = tt
+found_answers NoMemory text m source report w h = absurd h
 found_answers BadOrder text m source report w h = h
 
 pub refused_check : (status : Status) (text line : List ℕ) (source report : Port) → IsRefusedText source text line → AnswersRefusal status report line → AnswersCheck status source report
@@ -194,7 +194,7 @@ refused_check Done text line source report read h = absurd h
 refused_check Usage text line source report read h = h
 refused_check ReadFault text line source report read h = absurd h
 refused_check OrderFault text line source report read h = h
-refused_check NoMemory text line source report read h = tt
+refused_check NoMemory text line source report read h = absurd h
 refused_check BadOrder text line source report read h = h
 
 whole_not : (source : Port) (held text : List ℕ) (m : Module) → source.before ≡ Some text → IsWhole source held m → (longest_text < length text) ⊎ ((n : Module) → Accepts text n → ⊥) → ⊥

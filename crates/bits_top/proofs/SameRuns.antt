@@ -5,7 +5,7 @@ use Rattle.std.specs.Prelude.{option_and_then, Some}
 use Rattle.std.specs.Fmt.{signed_decimal}
 use Rattle.std.proofs.lemmas.Fmt.{decimal_digit}
 use Rattle.std.proofs.lemmas.Grind.{common_steps}
-use Rattle.std.proofs.lemmas.List.Elements.{All-tail}
+use Rattle.std.proofs.lemmas.List.Elements.{All-append, All-cons, All-map, All-nil, All-tail}
 use Rattle.std.proofs.lemmas.List.Folds.{flat_map-map}
 use Rattle.erl_syntax.specs.Atoms.{fixed_atoms, a_reductions}
 use Rattle.term_value.specs.Value.{Value, VInt, VAtom, none}
@@ -18,14 +18,14 @@ use Rattle.term_value.specs.AskOf.{ask_of}
 use Rattle.erl_syntax.specs.Reading.{number_in}
 use Rattle.term_value.specs.Machine.{End, Exit, Process, Running, Over, Left, Machine, first_of, beginning, start_of, applied, all_applied, Leads}
 use Rattle.term_value.specs.Machine as machine
-use Rattle.term_value.specs.Orders.{order_text}
+use Rattle.term_value.specs.Orders.{IsInRange, order_text}
 use Rattle.term_value.specs.Reports as reports
 use Rattle.term_value.specs.declared.entry.Entry.{Entry}
 use Rattle.term_value.specs.declared.entry.Entry.TheVariants.{Shown, Ended, Gone}
 use Rattle.first_form.specs.Form.{IsStraight, AreItems, IsShort}
 use Rattle.first_form.specs.Whole.{module_by, AreApart}
 use Rattle.bits_top.specs.Runs.{parts_as_bits, decoded, known, bound_value, shown_of, ending_of, shown_entries, end_entries, HasRun, ending_text, report_of}
-use Rattle.bits_top.specs.Whole.{IsRunOf}
+use Rattle.bits_top.specs.Whole.{IsRunOf, SharesNothing}
 use Rattle.bits_top.proofs.Runs.{known_more}
 use Rattle.bits_top.proofs.SameAsks.{due, standing, resting, whole_of, AllApart, apart_matched, apart_displayed}
 use Rattle.bits_top.proofs.SameWalks.{asks_resting, starts, asks_first}
@@ -108,6 +108,11 @@ lines code r shown how spelled =
     flat_map-map reports.shown_line (text (name_in code)) values ∙ flat_map-map (λ v. reports.shown_line (text (name_in code) v)) (λ n. VInt n) shown in
     ap (λ l. l ++ ending_text how) (sym each) ∙ ap (λ l. flat_map reports.shown_line texts ++ l) (end_text code how spelled)
 
+-- what holds of the entries that a run has holds of each entry of a run
+each_entry : (P : Entry → Type 0) (shown : List ℤ) → P (Shown 1) → P (Ended 1) → P (Gone 1 0 0 0) → All P (shown_entries shown ++ end_entries)
+each_entry P shown s e g = All-append P (shown_entries shown) end_entries (All-map P (λ n. Shown 1) shown (λ k d h. s))
+    (All-cons P (Ended 1) (Gone 1 0 0 0 ∷ []) e (All-cons P (Gone 1 0 0 0) [] g (All-nil P)))
+
 -- the whole run
 
 whole_start : (number : ℕ → ℕ) (atoms : List (List ℕ)) (name main : ℕ) (s : Straight) (r : ℕ) → number_in atoms (codes "main") ≡ main →
@@ -137,6 +142,10 @@ same_run number atoms others name main s (suc left) outcome order report apart t
       state = whole_at code (suc left) (Left (whole_end how)) shown;
       leads = subst (λ m. Leads m entries (whole_at code (suc left) (Left (whole_end how)) shown)) (sym at) f;
       complete = (tt, tt);
-      ordered = ordered ∙ ap order_text (run.entries ∙ ap (λ l. shown_entries l ++ end_entries) same_shown);
+      ordered = record {
+        in_range = each_entry IsInRange shown (omega arith, omega arith) (omega arith, omega arith) ((omega arith, omega arith), omega arith, omega arith, omega arith);
+        spelled = ordered ∙ ap order_text (run.entries ∙ ap (λ l. shown_entries l ++ end_entries) same_shown);
+      };
+      unshared = each_entry SharesNothing shown tt tt (refl, refl, refl);
       reported = reported ∙ ap (λ l. report_of l outcome.ending) same_shown ∙ ap (λ e. report_of shown e) same_ending ∙ lines code (suc left) shown how spelled;
     }

@@ -35,6 +35,11 @@ pub record Untouched (p : Port) : Type 0 where
   pub told : p.after ≡ p.before
   pub count : p.faults_after ≡ p.faults_before
 
+-- nothing was written to the two sinks
+pub record AreUntouched (report order : Port) : Type 0 where
+  pub reported : Untouched report
+  pub ordered : Untouched order
+
 -- a source held this text, where it tells
 abbrev pub Held : Port → List ℕ → Type 0
 Held p text = IfSome p.before (λ held. held ≡ text)
@@ -152,7 +157,7 @@ pub record IsReportFaultOfRefusal (source report order : Port) : Type 0 where
   pub fault : Faulted report
   pub reported : TookFront report line
 
--- What the answer to `run` says. Want of memory is free.
+-- What the answer to `run` says. Want of memory may come at any time before the order is written.
 abbrev pub AnswersRun : ℕ → Status → Port → Port → Port → Type 0
 AnswersRun reductions Done source report order = IsDone reductions source report order
 AnswersRun reductions Refused source report order = IsRefused source report order
@@ -160,7 +165,7 @@ AnswersRun reductions Usage source report order = ⊥
 AnswersRun reductions ReadFault source report order = IsReadFault source report order
 AnswersRun reductions ReportFault source report order = IsReportFaultOfRun reductions source report order ⊎ IsReportFaultOfRefusal source report order
 AnswersRun reductions OrderFault source report order = IsOrderFault reductions source report order
-AnswersRun reductions NoMemory source report order = Unit {0}
+AnswersRun reductions NoMemory source report order = AreUntouched report order
 AnswersRun reductions BadOrder source report order = ⊥
 
 -- What the answer to a refusal says: its line is written, or the report failed.
@@ -213,7 +218,7 @@ abbrev pub AnswersAccepted : ℕ → Straight → Status → Port → Port → T
 AnswersAccepted reductions straight Done report order = IsWritten straight reductions report order
 AnswersAccepted reductions straight OrderFault report order = IsOrderFailed straight reductions report order
 AnswersAccepted reductions straight ReportFault report order = IsReportFailed straight reductions report order
-AnswersAccepted reductions straight NoMemory report order = Unit {0}
+AnswersAccepted reductions straight NoMemory report order = AreUntouched report order
 AnswersAccepted reductions straight Refused report order = ⊥
 AnswersAccepted reductions straight Usage report order = ⊥
 AnswersAccepted reductions straight ReadFault report order = ⊥
@@ -289,7 +294,7 @@ pub record IsLineUnwritten (source report : Port) : Type 0 where
   pub fault : Faulted report
   pub reported : TookFront report line
 
--- What the answer to `check` says. Want of memory is free.
+-- What the answer to `check` says. Want of memory may come at any time before the report is written.
 abbrev pub AnswersCheck : Status → Port → Port → Type 0
 AnswersCheck Done source report = IsFound source report
 AnswersCheck Refused source report = IsRefusedCheck source report
@@ -297,7 +302,7 @@ AnswersCheck Usage source report = ⊥
 AnswersCheck ReadFault source report = IsUnread source report
 AnswersCheck ReportFault source report = IsOkUnwritten source report ⊎ IsLineUnwritten source report
 AnswersCheck OrderFault source report = ⊥
-AnswersCheck NoMemory source report = Unit {0}
+AnswersCheck NoMemory source report = Untouched report
 AnswersCheck BadOrder source report = ⊥
 
 -- What the answer says of the report where the module is accepted.

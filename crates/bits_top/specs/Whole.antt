@@ -1,16 +1,24 @@
 -- The runs of a module in the copying machine (what an order and a report are is this project's own).
-use Rattle.std.specs.Prelude.{◌≡◌, ℕ, List}
+use Rattle.std.specs.Prelude.{◌≡◌, ℕ, List, All}
 use Rattle.term_value.specs.Tree.{Module}
 use Rattle.term_value.specs.Machine.{Machine, Leads, IsComplete, start_of}
-use Rattle.term_value.specs.Orders.{order_text}
+use Rattle.term_value.specs.Orders.{IsOrderText}
 use Rattle.term_value.specs.Reports as reports
 use Rattle.term_value.specs.declared.entry.Entry.{Entry}
+use Rattle.term_value.specs.declared.entry.Entry.TheVariants.{Gone}
 
--- An order of the module's copying machine in the whole language, legal and complete, the state that it leads to, and their texts.
+-- A process that is gone had no births and no last drops of shared buffers and moved no bits, since no buffer is shared.
+abbrev pub SharesNothing : Entry → Type 0
+SharesNothing (Gone pid births drops moved) = (births ≡ 0) × (drops ≡ 0) × (moved ≡ 0)
+SharesNothing _ = Unit {0}
+
+-- An order of the module's copying machine in the whole language, legal and complete, whose entries are in the ranges of their
+-- lines and count nothing of shared buffers; the state that it leads to; and the two texts.
 pub record IsRunOf (code : Module) (reductions : ℕ) (order report : List ℕ) : Type 0 where
   pub entries : List Entry
   pub state : Machine
   pub leads : Leads (start_of code reductions) entries state
   pub complete : IsComplete state
-  pub ordered : order ≡ order_text entries
+  pub ordered : IsOrderText order entries
+  pub unshared : All SharesNothing entries
   pub reported : report ≡ reports.report state

@@ -1,7 +1,9 @@
 // The top call: the words of a command line, the ports, the answer.
-ghost use Rattle.std.specs.Prelude.{◌≡◌, ◌≤◌, ◌↔◌, ℕ, List, All, IfOk, map, string_bytes};
+ghost use Rattle.std.specs.Prelude.{◌≡◌, ◌≤◌, ◌↔◌, ◌+◌, ℕ, List, All, IfOk, map, string_bytes};
 ghost use Rattle.bits_top.specs.Answer.{AnswersAccepted, AnswersCheck, AnswersOk, AnswersRefusal, AnswersRun, ChecksWell, IsDoneOrNoMemory, IsRefusedOrNoMemory, IsSmooth, IsSmoothRefusal, RunsEach, Untouched, port};
 ghost use Rattle.bits_top.specs.Command.{Spells};
+ghost use Rattle.bits_top.specs.Stream.{ConsumesAtMost};
+ghost use Rattle.erl_syntax.specs.Reading.{longest_text};
 ghost use Rattle.first_form.specs.Form.{IsShort, IsStraight};
 ghost use Rattle.bits_top.specs.declared.command.Command.{Command};
 ghost use Rattle.bits_top.specs.declared.command.Run.{Run};
@@ -65,6 +67,7 @@ pub fn top<R: Threads + Wait + Sync, S: Source, T: Source, A: Sink, B: Sink, G: 
     ensures checks { Spells (map string_bytes words.now) Command.Check → ChecksWell result
         (port S.left S.faults «module».old «module».new)
         (port A.written A.faults report.old report.new) }
+    ensures takes { ConsumesAtMost (S.left «module».old) (S.left «module».new) (longest_text + 1) }
 {
     match command_of(words) {
         None => Status::Usage,
@@ -94,6 +97,7 @@ pub fn top_plain<S: Source, T: Source, A: Sink>(
     ensures checks { command.now ≡ Plain.Check → ChecksWell result
         (port S.left S.faults «module».old «module».new)
         (port A.written A.faults report.old report.new) }
+    ensures takes { ConsumesAtMost (S.left «module».old) (S.left «module».new) (longest_text + 1) }
 {
     match command {
         Plain::Check => check_module(alloc, module, report),
@@ -105,6 +109,7 @@ fn check_module<S: Source, A: Sink>(alloc: Global, source: &mut S, report: &mut 
     ensures check { AnswersCheck result
         (port S.left S.faults source.old source.new)
         (port A.written A.faults report.old report.new) }
+    ensures takes { ConsumesAtMost (S.left source.old) (S.left source.new) (longest_text + 1) }
 {
     let text = match read_all(alloc, source, TEXT_LIMIT) {
         Ok(text) => text,
@@ -140,10 +145,11 @@ fn run_module<S: Source, A: Sink, B: Sink>(
     order: &mut B,
 ) -> Status
     requires { 1 ≤ reductions }
-    ensures { AnswersRun reductions result
+    ensures run { AnswersRun reductions result
         (port S.left S.faults source.old source.new)
         (port A.written A.faults report.old report.new)
         (port B.written B.faults order.old order.new) }
+    ensures takes { ConsumesAtMost (S.left source.old) (S.left source.new) (longest_text + 1) }
 {
     let text = match read_all(alloc, source, TEXT_LIMIT) {
         Ok(text) => text,

@@ -13,7 +13,7 @@ pub enum Status {
     ReportFault,
     /// The order sink failed. A prefix of the order is written, and nothing of the report.
     OrderFault,
-    /// Memory was wanting. Prefixes of the order and of the report are written.
+    /// Memory was wanting. Nothing is written.
     NoMemory,
     /// The order that was read isn't an order of the module.
     BadOrder,

@@ -1,8 +1,8 @@
 // Reading a source to its end or past a limit, and writing bytes whole.
-ghost use Rattle.std.specs.Prelude.{◌≡◌, ◌++◌, ◌<◌, ◌≤◌, ℕ, List, length, IfOk, OnOk, IsErrOf};
+ghost use Rattle.std.specs.Prelude.{◌≡◌, ◌+◌, ◌++◌, ◌<◌, ◌≤◌, ℕ, List, length, IfOk, OnOk, IsErrOf};
 ghost use Rattle.std.specs.Io.KnownBytes.{Appends, Consumes, IsAtEnd};
 ghost use Rattle.io_ports.specs.Causes.{HasCause, Rose};
-ghost use Rattle.bits_top.specs.Stream.{AppendsPrefix, ReadsUpTo};
+ghost use Rattle.bits_top.specs.Stream.{AppendsPrefix, ConsumesAtMost, ReadsUpTo};
 ghost use Rattle.bits_top.specs.declared.streams.ReadError.TheVariants.{Fault, Memory};
 
 use io_ports::{Failed, Sink, Source};
@@ -43,6 +43,7 @@ fn read_piece<S: Source>(
     ensures taken { IfOk result (λ n. (front : List ℕ) × (length front ≡ n) × (bytes.new.items ≡ bytes.old.items ++ front)
         × Consumes (S.left source.old) (S.left source.new) front) }
     ensures bound { IfOk result (λ n. n ≤ most) }
+    ensures takes { ConsumesAtMost (S.left source.old) (S.left source.new) most }
     ensures end { IfOk result (λ n. n ≡ 0 → IsAtEnd (S.left source.new)) }
     ensures later { S.faults source.old ≤ S.faults source.new }
     ensures failed { IsErrOf result ReadError.Fault → Rose (S.faults source.old) (S.faults source.new) }
@@ -61,6 +62,7 @@ pub(crate) fn read_all<S: Source>(
     limit: u32,
 ) -> Result<Vec<u8>, ReadError>
     ensures read { IfOk result (λ bytes. ReadsUpTo (S.left source.old) (S.left source.new) limit bytes.items) }
+    ensures takes { ConsumesAtMost (S.left source.old) (S.left source.new) (limit + 1) }
     ensures later { S.faults source.old ≤ S.faults source.new }
     ensures failed { IsErrOf result ReadError.Fault → Rose (S.faults source.old) (S.faults source.new) }
 {

@@ -5,20 +5,20 @@ use Rattle.bits_top.specs.Answer.{IsTable}
 use Rattle.bits_top.proofs.Answers.{refusal_answers, accepted_answers, form_of, held_long, none_built, only_of, unaccepted, whole_of}
 use Rattle.bits_top.proofs.program.run_module.Goals as goal
 
-pub returns-then-len : goal.returns-then-len
-returns-then-len g c =
+pub returns-then-len-clause-run : goal.returns-then-len-clause-run
+returns-then-len-clause-run g c =
     let long = held_long _ _ _ c.in-Ok.ensures.read.taken (omega arith) in
     refusal_answers c.refuse.result c.args.reductions long.0 (codes "1:1: text too long\n") _ _ _ (inl (inl (record { held = long.1; long = long.2; due = refl }))) (record { told = refl; count = refl })
     c.refuse.ensures
 
-pub returns-in-Err-Line : goal.returns-in-Err-Line
-returns-in-Err-Line g c =
+pub returns-in-Err-Line-clause-run : goal.returns-in-Err-Line-clause-run
+returns-in-Err-Line-clause-run g c =
     let short : length c.in-Ok.text.items ≤ 1_048_576 = omega arith in
     refusal_answers c.refuse-in-Err-Line.result c.args.reductions c.in-Ok.text.items c.deref-in-Err-Line.result.now _ _ _ (inl (inr (unaccepted _ c.in-Ok.text.items c.deref.result.now c.deref-in-Err-Line.result.now c.in-Err-Line.field-0 _ c.in-Err-Line.field-0-is c.deref.ensures.value (c.deref-in-Err-Line.ensures.value ∙ ap (λ v. v.items) c.in-Err-Line.line-is) c.in-Ok.ensures.read.taken (c.in-Ok.ensures.read.whole short) short c.in-Err-Line.ensures.refused c.in-Err-Line.ensures.none))) (record { told = refl; count = refl })
     c.refuse-in-Err-Line.ensures
 
-pub returns-in-Ok-None : goal.returns-in-Ok-None
-returns-in-Ok-None g c =
+pub returns-in-Ok-None-clause-run : goal.returns-in-Ok-None-clause-run
+returns-in-Ok-None-clause-run g c =
     let short : length c.in-Ok.text.items ≤ 1_048_576 = omega arith in
     let tree = c.in-Ok-accept.checked.tree in
     let whole = whole_of _ c.in-Ok.text.items c.deref.result.now tree c.deref.ensures.value c.in-Ok.ensures.read.taken (c.in-Ok.ensures.read.whole short) short c.in-Ok-accept.ensures.accepted in
@@ -32,8 +32,8 @@ returns-in-Ok-None g c =
 pub answer-requires-clause-short : goal.answer-requires-clause-short
 answer-requires-clause-short g c = search rules
 
-pub returns-in-Ok-Some : goal.returns-in-Ok-Some
-returns-in-Ok-Some g c =
+pub returns-in-Ok-Some-clause-run : goal.returns-in-Ok-Some-clause-run
+returns-in-Ok-Some-clause-run g c =
     let short : length c.in-Ok.text.items ≤ 1_048_576 = omega arith in
     let tree = c.in-Ok-accept.checked.tree in
     let whole = whole_of _ c.in-Ok.text.items c.deref.result.now tree c.deref.ensures.value c.in-Ok.ensures.read.taken (c.in-Ok.ensures.read.whole short) short c.in-Ok-accept.ensures.accepted in

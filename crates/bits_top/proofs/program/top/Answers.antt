@@ -15,13 +15,13 @@ returns-in-None-clause-refuses g c = λ run h s. absurd (c.in-None.ensures (Run 
 pub returns-in-Some-Run-clause-run : goal.returns-in-Some-Run-clause-run
 returns-in-Some-Run-clause-run g c = λ run h.
     let same = same_run_asked c.in-Some-Run.asked run (sym c.in-Some-Run.field-0-is ∙ spelled_once _ c.in-Some-Run.field-0 run c.in-Some-Run.ensures h) in
-    rw same at c.run_module.ensures
+    rw same at c.run_module.ensures.run
 
 pub returns-in-Some-Run-clause-complete : goal.returns-in-Some-Run-clause-complete
-returns-in-Some-Run-clause-complete g c = λ run h s. smooth_done c.run_module.result _ _ _ _ c.run_module.ensures s
+returns-in-Some-Run-clause-complete g c = λ run h s. smooth_done c.run_module.result _ _ _ _ c.run_module.ensures.run s
 
 pub returns-in-Some-Run-clause-refuses : goal.returns-in-Some-Run-clause-refuses
-returns-in-Some-Run-clause-refuses g c = λ run h s. smooth_refused c.run_module.result _ _ _ _ c.run_module.ensures s
+returns-in-Some-Run-clause-refuses g c = λ run h s. smooth_refused c.run_module.result _ _ _ _ c.run_module.ensures.run s
 
 pub returns-in-None-clause-check : goal.returns-in-None-clause-check
 returns-in-None-clause-check g c = λ h. c.in-None.ensures Check h
