@@ -1,0 +1,15 @@
+pub mod InEnvironment
+pub mod Matches
+pub mod Nothing
+pub mod Readings
+pub mod RowCursor
+pub mod Rows
+pub mod Runs
+pub mod ScopedLaws
+pub mod ScopedMachine
+pub mod ScopedMatch
+pub mod ScopedPut
+pub mod ScopedSteps
+pub mod Turns
+pub mod Twice
+pub mod Under

@@ -1,0 +1,6 @@
+pub mod Bindings
+pub mod Cursors
+pub mod Environments
+pub mod Layers
+pub mod Scoped
+pub mod Turns
