@@ -3,9 +3,9 @@
 ghost use Rattle.std.specs.Prelude.{◌≡◌, ◌^◌, ◌&&◌, nat_le, List, Bool, IfOk};
 ghost use Rattle.term_value.specs.Value.{VTuple, VList, more};
 ghost use Rattle.term_value.specs.Bounds.{is_within, within};
-ghost use Rattle.term_value.specs.Made.{given};
-ghost use Rattle.term_value.specs.Seen.{meanings};
-ghost use Rattle.term_value.specs.Terms.{value_of, row_of, row};
+ghost use Rattle.term_value.specs.Made.{given, items_within, IsMadeOf};
+ghost use Rattle.term_value.specs.Seen.{meanings, SList, STuple, then};
+ghost use Rattle.term_value.specs.Terms.{value_of, row_of, row, seen};
 
 use crate::cells::Cells;
 use crate::term::Term;
@@ -39,8 +39,20 @@ fn tuple_fits<R>(items: &Items<R>) -> bool
     )
 }
 
+/// Whether a term is within the bounds of its own items, in a few steps: those of length, weight and depth, where it is a tuple or a list.
+pub fn is_bounded<R>(term: &Term<R>) -> bool
+    ensures { (shown : R → List Bool) → result ≡ items_within (value_of shown term.now) }
+{
+    match term {
+        Term::Tuple(items) => tuple_fits(items.get()),
+        Term::List(items) => list_fits(items),
+        _ => true,
+    }
+}
+
 fn list_within<R: Drop>(list: Cells<R>) -> Option<Term<R>>
-    ensures { (shown : R → List Bool) → given shown result ≡ within (VList (meanings shown (row_of list))) }
+    ensures kept { IsMadeOf (SList (row_of list)) result }
+    ensures is { (shown : R → List Bool) → given shown result ≡ within (VList (meanings shown (row_of list))) }
 {
     if list_fits(&list) {
         Some(Term::List(list))
@@ -55,7 +67,8 @@ pub fn cons<R: Drop>(
     item: Term<R>,
     rest: Cells<R>,
 ) -> Result<Option<Term<R>>, AllocError>
-    ensures { (shown : R → List Bool) → IfOk result (λ made. given shown made ≡ within (VList (more (value_of shown item) (meanings shown (row_of rest))))) }
+    ensures kept { IfOk result (IsMadeOf (SList (then (seen item) (row_of rest)))) }
+    ensures is { (shown : R → List Bool) → IfOk result (λ made. given shown made ≡ within (VList (more (value_of shown item) (meanings shown (row_of rest))))) }
 {
     let list = Cells::cons(alloc, item, rest)?;
     Ok(list_within(list))
@@ -63,7 +76,8 @@ pub fn cons<R: Drop>(
 
 /// The list of these items, in a few steps an item; None past a bound. The error says that no memory was left.
 pub fn list_of<R: Drop>(alloc: Global, items: Vec<Term<R>>) -> Result<Option<Term<R>>, AllocError>
-    ensures { (shown : R → List Bool) → IfOk result (λ made. given shown made ≡ within (VList (meanings shown (row items.items)))) }
+    ensures kept { IfOk result (IsMadeOf (SList (row items.items))) }
+    ensures is { (shown : R → List Bool) → IfOk result (λ made. given shown made ≡ within (VList (meanings shown (row items.items)))) }
 {
     let list = Cells::of(alloc, items)?;
     Ok(list_within(list))
@@ -71,7 +85,8 @@ pub fn list_of<R: Drop>(alloc: Global, items: Vec<Term<R>>) -> Result<Option<Ter
 
 /// The tuple of these items, in a few steps an item; None past a bound. The error says that no memory was left.
 pub fn tuple_of<R: Drop>(alloc: Global, items: Vec<Term<R>>) -> Result<Option<Term<R>>, AllocError>
-    ensures { (shown : R → List Bool) → IfOk result (λ made. given shown made ≡ within (VTuple (meanings shown (row items.items)))) }
+    ensures kept { IfOk result (IsMadeOf (STuple (row items.items))) }
+    ensures is { (shown : R → List Bool) → IfOk result (λ made. given shown made ≡ within (VTuple (meanings shown (row items.items)))) }
 {
     let items = Items::of(items);
     if tuple_fits(&items) {
