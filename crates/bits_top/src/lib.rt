@@ -13,6 +13,3 @@ mod texts;
 pub use plain::Plain;
 pub use program::{top, top_plain};
 pub use status::Status;
-
-#[cfg(test)]
-mod tests;

@@ -22,9 +22,6 @@ pub use small::SmallBits;
 pub use steps::Steps;
 pub use writing::put;
 
-#[cfg(test)]
-mod tests;
-
 /// The most bits that a bitstring may have, 2^27.
 pub const MAX_BITS: u32 = 134_217_728;
 

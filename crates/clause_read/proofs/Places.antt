@@ -1,4 +1,4 @@
--- The place of each byte of a text, and that of the word behind those that are read.
+-- The place of the word behind those that are read.
 use Rattle.std.proofs.Common.{◌≡◌, ℕ, suc, ◌+◌, ◌-◌, ◌<◌, ◌≤◌, List, [], ◌∷◌, length, drop, get_or, refl, sym, ap, arith, ◌∙◌}
 use Rattle.std.proofs.Math.Seq.{drop-cons}
 use Rattle.std.proofs.Math.ListN.{drop_of_length-le}
@@ -7,15 +7,6 @@ use Rattle.erl_syntax.specs.Tokens.{after, place_from}
 use Rattle.pattern_read.specs.declared.source.Numbered.{Numbered}
 use Rattle.pattern_read.specs.Source.{Readable, StandsAt}
 use Rattle.clause_read.specs.ReadText.{place_in}
-
-front_at : (bs : List ℕ) (i : ℕ) → i < length bs → drop i bs ≡ get_or bs i 0 ∷ drop (i + 1) bs
-front_at bs i h = let s : suc i ≡ i + 1 = omega arith in drop-cons bs i 0 h ∙ ap (λ j. get_or bs i 0 ∷ drop j bs) s
-
-pub place_step : (at : Span) (i : ℕ) (bs : List ℕ) → i < length bs →
-    place_from at (length bs - i) (drop i bs) ≡ place_from (after (get_or bs i 0) at) (length bs - (i + 1)) (drop (i + 1) bs)
-place_step at i bs h =
-    let e : length bs - i ≡ suc (length bs - (i + 1)) = omega arith in
-    rw (e, front_at bs i h) refl
 
 pub place_there : (ws : Readable) (at : ℕ) (n : Numbered) (last : Span) → StandsAt ws at n → n.token.span ≡ place_in last (drop at ws.words)
 place_there ws at n last s = sym (ap (place_in last) s.is ∙ s.place)

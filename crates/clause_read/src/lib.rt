@@ -8,6 +8,3 @@ mod second;
 
 pub use numbering::atoms_stand_once;
 pub use read::{ReadCause, ReadFault, read_module};
-
-#[cfg(test)]
-mod tests;

@@ -1,7 +1,6 @@
-ghost use Rattle.std.specs.Prelude.{◌≡◌, ◌≤◌, ◌<◌, ◌+◌, ◌^◌, ◌⊎◌, length, drop, IfOk, IfErr};
-ghost use Rattle.erl_syntax.specs.Reading.{Reads};
-ghost use Rattle.erl_syntax.specs.Tokens.{after, place};
-ghost use Rattle.erl_syntax.specs.Characters.{is_continuation};
+ghost use Rattle.std.specs.Prelude.{◌≡◌, ◌≤◌, ◌⊎◌, length, drop, IfOk, IfErr};
+ghost use Rattle.erl_syntax.specs.Reading.{Reads, longest_text};
+ghost use Rattle.erl_syntax.specs.Tokens.{place};
 ghost use Rattle.erl_syntax.specs.declared.module.Module.{Module};
 ghost use Rattle.clause_read.specs.ReadText.{IsReadFault, fault_at, place_in};
 ghost use Rattle.clause_read.specs.declared.read.ReadCause.TheVariants.{NoMemory};
@@ -9,39 +8,28 @@ ghost use Rattle.clause_read.specs.declared.read.ReadCause.TheVariants.{NoMemory
 use crate::forms::{ModuleForms, read_forms};
 use crate::numbering::number;
 use crate::second::told_of;
-use erl_syntax::{LexCause, LexFault, Listed, Module, Span, Text};
-use erl_tokens::{one_reading, tokens};
+use erl_syntax::{LONGEST_TEXT, LexCause, LexFault, Listed, Module, Span, Text};
+use erl_tokens::{one_reading, place_after, tokens};
 use pattern_read::fault::Fault;
 use pattern_read::source::Source;
 use std::alloc::{AllocError, Global};
-use thiserror::Error;
-
-/// The most bytes that a text may have.
-const LONGEST_TEXT: usize = 1_048_576;
 
 /// Why a text isn't read as a module.
-#[derive(Clone, Copy, Debug, PartialEq, Eq, Error)]
+#[derive(Clone, Copy, Debug, PartialEq, Eq)]
 pub enum ReadCause {
     /// A text of more than 1,048,576 bytes.
-    #[error("text too long")]
     TextTooLong,
     /// A text that has a fault of tokens.
-    #[error("{0}")]
     Token(LexCause),
     /// A token with which no module goes on.
-    #[error("syntax")]
     Syntax,
     /// A token with which only a deeper module goes on.
-    #[error("too deep")]
     TooDeep,
     /// An atom that is the name of no attribute, in the place of one.
-    #[error("unknown attribute")]
     UnknownAttribute,
     /// An atom that is no word of a segment's type, in the place of one.
-    #[error("unknown segment type")]
     UnknownSegmentType,
     /// No fault of the text: memory ran out.
-    #[error("out of memory")]
     NoMemory,
 }
 
@@ -111,44 +99,12 @@ fn place_of(source: &Source, at: usize, last: Span) -> Span
     }
 }
 
-/// Whether a byte goes on with a character (RFC 3629, section 3).
-fn is_continuation(b: u8) -> bool
-    ensures { result ≡ is_continuation b }
-{
-    128 <= b && b < 192
-}
-
-/// The place after a byte.
-fn after(b: u8, at: Span) -> Span
-    requires { (at.line < 2 ^ 31) × (at.column < 2 ^ 31) }
-    ensures value { result ≡ after b at }
-    ensures near { (result.line ≤ at.line + 1) × (result.column ≤ at.column + 1) }
-{
-    if b == b'\n' {
-        Span {
-            line: at.line + 1,
-            column: 1,
-        }
-    } else if is_continuation(b) {
-        at
-    } else {
-        Span {
-            line: at.line,
-            column: at.column + 1,
-        }
-    }
-}
-
 /// The place of the end of a text.
 fn end_of(text: &[u8]) -> Span
-    requires { length text.now ≤ 1048576 }
+    requires { length text.now ≤ longest_text }
     ensures { result ≡ place text.now (length text.now) }
 {
-    let mut last = Span { line: 1, column: 1 };
-    for b in text {
-        last = after(*b, last);
-    }
-    last
+    place_after(text, Span { line: 1, column: 1 })
 }
 
 /// A module of its parts.

@@ -9,13 +9,14 @@ use Rattle.erl_syntax.specs.Grammar.{Of, Forms, Spells, strict}
 use Rattle.erl_syntax.specs.Tokens.{Lexes, token_text, place}
 use Rattle.erl_syntax.specs.Word.{Word}
 use Rattle.erl_syntax.specs.declared.module.Module.{Module}
+use Rattle.erl_syntax.specs.declared.text.TheConstants.{LONGEST_TEXT}
 use Rattle.erl_syntax.specs.declared.token.Token.{Token}
 use Rattle.erl_syntax.specs.declared.token.TokenKind.{TokenKind}
 use Rattle.erl_syntax.specs.declared.token.TokenKind.TheVariants as k
 
 -- a text of more bytes isn't read
 abbrev pub longest_text : ℕ
-longest_text = 1048576
+longest_text = LONGEST_TEXT
 
 -- ---- The table of atoms
 

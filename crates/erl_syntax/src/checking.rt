@@ -1,45 +1,32 @@
 use crate::{SegFault, Span};
 use std::alloc::AllocFailed;
-use thiserror::Error;
 
 /// Why a module that was read isn't accepted, in the order in which the faults at one place are told.
-#[derive(Clone, Copy, Debug, PartialEq, Eq, Error)]
+#[derive(Clone, Copy, Debug, PartialEq, Eq)]
 pub enum CheckCause {
     /// A segment without a type.
-    #[error("{0}")]
     Segment(SegFault),
     /// A second `-module` form.
-    #[error("module again")]
     ModuleAgain,
     /// A clause with another name or number of arguments than the first of its function.
-    #[error("heads differ")]
     HeadsDiffer,
     /// A function that stands before, or whose calls would also be of a built-in function.
-    #[error("function again")]
     FunctionAgain,
     /// An exported name of no function.
-    #[error("exported function missing")]
     ExportMissing,
     /// A call of no function.
-    #[error("undefined function")]
     UndefinedFunction,
     /// A call in a guard or in a pattern's size that isn't of a built-in function for guards.
-    #[error("call in guard")]
     CallInGuard,
     /// A variable that has no value where it stands.
-    #[error("unbound variable")]
     UnboundVariable,
     /// A variable of a `case`, an `if` or a `receive`, behind it.
-    #[error("unsafe variable")]
     UnsafeVariable,
     /// A module without a `-module` form.
-    #[error("no module attribute")]
     NoModule,
     /// A module that doesn't export `main/0`.
-    #[error("no main/0")]
     NoMain,
     /// No fault of the module: memory ran out.
-    #[error("out of memory")]
     NoMemory,
 }
 

@@ -27,9 +27,6 @@ pub use pattern::Pattern;
 pub use qual::Qual;
 pub use segment::{Segment, Spec};
 pub use span::Span;
-pub use text::Text;
+pub use text::{LONGEST_TEXT, Text};
 pub use token::{LexCause, LexFault, MARKS, Piece, RESERVED, Token, TokenKind, longest_mark_first};
 pub use typing::{Kind, SegFault, SideUse, SizeUse, SpecKind, Typed};
-
-#[cfg(test)]
-mod tests;

@@ -2,6 +2,9 @@ ghost use Rattle.std.specs.Prelude.{◌≡◌};
 
 use std::marker::Model;
 
+/// The most bytes that a module's text may have.
+pub const LONGEST_TEXT: usize = 1_048_576;
+
 /// Bytes of a text, which contracts see as the list of the bytes.
 #[derive(Debug, Drop)]
 pub struct Text {

@@ -1,10 +1,9 @@
 ghost use Rattle.std.specs.Prelude.{◌≡◌, ◌≤◌, ℕ, List, length, true, All};
 ghost use Rattle.std.specs.List.{find};
-ghost use Rattle.erl_syntax.specs.Spellings.{spelling, begins_with};
+ghost use Rattle.erl_syntax.specs.Spellings.{spelling, begins_with, is_spelled};
 
 use crate::Span;
 use std::alloc::AllocFailed;
-use thiserror::Error;
 
 /// The kind of a token: one for each class of the Erlang Reference Manual's lexical rules
 /// ("Character Set and Source File Encoding", "Expressions", "Data Types"), and one for each reserved word and mark.
@@ -237,7 +236,25 @@ pub fn longest_mark_first()
     ensures { (bs : List ℕ) (kind : TokenKind) → find (begins_with bs) MARKS ≡ Some kind → All (λ other. begins_with bs other ≡ true → length (spelling other) ≤ length (spelling kind)) MARKS }
 {}
 
+/// Whether the word is spelled so.
+fn is_spelled(word: &[u8], kind: TokenKind) -> bool
+    ensures { result ≡ is_spelled word.now kind }
+{
+    let spelling = kind.spelling();
+    word.len() == spelling.len() && word.starts_with(spelling)
+}
+
 impl TokenKind {
+    /// The reserved word that is spelled so.
+    pub fn reserved(word: &[u8]) -> Option<TokenKind>
+        ensures { result ≡ find (is_spelled word.now) RESERVED }
+    {
+        RESERVED
+            .iter()
+            .copied()
+            .find(|kind| is_spelled(word, *kind))
+    }
+
     /// The characters of a reserved word or a mark. The other kinds have many spellings, and give no characters here.
     pub fn spelling(self) -> &'static [u8]
         ensures { result.now ≡ spelling self }
@@ -330,34 +347,25 @@ pub struct Token {
 }
 
 /// Why a text has no tokens.
-#[derive(Clone, Copy, Debug, PartialEq, Eq, Error)]
+#[derive(Clone, Copy, Debug, PartialEq, Eq)]
 pub enum LexCause {
     /// A byte that belongs to no character of UTF-8 (RFC 3629).
-    #[error("not UTF-8")]
     NotUtf8,
     /// A character at which no token begins.
-    #[error("unexpected character")]
     UnexpectedCharacter,
     /// A string or a quoted atom that the text's end cuts off.
-    #[error("unclosed quote")]
     UnclosedQuote,
     /// A backslash that begins no escape.
-    #[error("bad escape")]
     BadEscape,
     /// Digits before `#` that are no base of a number.
-    #[error("bad number")]
     BadNumber,
     /// Digits, a full stop and a digit.
-    #[error("float")]
     Float,
     /// An integer of 2^127 or more.
-    #[error("integer too wide")]
     IntegerTooWide,
     /// An atom of more than 255 characters.
-    #[error("atom too long")]
     AtomTooLong,
     /// No fault of the text: memory ran out.
-    #[error("out of memory")]
     NoMemory,
 }
 

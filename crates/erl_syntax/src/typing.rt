@@ -1,5 +1,4 @@
 use bits_value::{Endian, Sign, UtfKind};
-use thiserror::Error;
 
 /// Where a segment stands: in a bit expression, in a pattern that is matched, or in the pattern of a bit generator.
 #[derive(Clone, Copy, Debug, PartialEq, Eq)]
@@ -58,33 +57,24 @@ pub enum SpecKind {
 }
 
 /// Why a segment has no type, in the order in which the faults of one segment are told.
-#[derive(Clone, Copy, Debug, PartialEq, Eq, Error)]
+#[derive(Clone, Copy, Debug, PartialEq, Eq)]
 pub enum SegFault {
     /// Two words of a kind that differ.
-    #[error("two specs of a kind")]
     TwoOfAKind,
     /// A unit outside 1 to 256.
-    #[error("unit out of range")]
     UnitRange,
     /// The word `float`.
-    #[error("float segment")]
     FloatType,
     /// A character with a size.
-    #[error("size on utf")]
     SizeOnUtf,
     /// A character with a unit.
-    #[error("unit on utf")]
     UnitOnUtf,
     /// A number with a unit and without a size.
-    #[error("unit without size")]
     UnitWithoutSize,
     /// A string literal that isn't to be numbers or characters.
-    #[error("string as binary")]
     StringType,
     /// In a pattern, a bitstring without a size before other segments.
-    #[error("open segment not last")]
     OpenNotLast,
     /// A bitstring without a size in a generator's pattern.
-    #[error("open segment in generator")]
     OpenInGenerator,
 }

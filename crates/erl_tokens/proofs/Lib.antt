@@ -5,6 +5,7 @@ pub mod FoundMark
 pub mod Placed
 pub mod Cut
 pub mod OneReading
+pub mod TokenKinds
 pub mod IntegerTokens
 pub mod IntegerValues
 pub mod AllValues

@@ -1,5 +1,6 @@
 ghost use Rattle.std.specs.Prelude.{◌≡◌, ◌<◌, ◌≤◌, ◌+◌, ◌^◌, length, take, All, IfOk, IfErr, None, ℕ, List, Option, Bool};
 ghost use Rattle.std.specs.Str.Lossy.{utf8_valid_len};
+ghost use Rattle.erl_syntax.specs.Reading.{longest_text};
 ghost use Rattle.erl_syntax.specs.Tokens.{Lexes, LexesFrom, IsWithin, front, is_cut};
 ghost use Rattle.erl_tokens.specs.Cutting.{IsFault};
 ghost use Rattle.erl_tokens.specs.Values.{AllIntegers};
@@ -30,7 +31,7 @@ fn front(text: &[u8]) -> &[u8]
 ///
 /// The text's first fault, with its place and cause, or that memory ran out.
 pub fn tokens(alloc: Global, text: &[u8]) -> Result<Vec<Token>, LexFault>
-    requires { length text.now ≤ 1048576 }
+    requires { length text.now ≤ longest_text }
     ensures tokens { IfOk result (λ v. Lexes text.now v.items None) }
     ensures integers { IfOk result (λ v. AllIntegers text.now v.items) }
     ensures within { IfOk result (λ v. All (IsWithin text.now) v.items) }

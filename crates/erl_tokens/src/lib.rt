@@ -14,7 +14,5 @@ mod values;
 
 pub use erl_syntax::{LexCause, LexFault, Token, TokenKind};
 pub use lexing::{longest_token, one_reading, tokens};
+pub use spans::place_after;
 pub use values::{atom_text, character_number, integer_value, string_characters};
-
-#[cfg(test)]
-mod tests;

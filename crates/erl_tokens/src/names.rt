@@ -2,9 +2,10 @@ ghost use Rattle.std.specs.Prelude.{◌≡◌, ◌<◌, ◌≤◌, length};
 ghost use Rattle.std.specs.List.{prefix_len, find};
 ghost use Rattle.erl_syntax.specs.Spellings.{is_spelled};
 ghost use Rattle.erl_syntax.specs.Tokens.{is_name, begins_name, name, named, name_kind};
+ghost use Rattle.erl_syntax.specs.declared.token.TheConstants.{RESERVED};
 ghost use Rattle.erl_tokens.specs.Pieces.{IsWithin};
 
-use erl_syntax::{LexCause, Piece, RESERVED, TokenKind};
+use erl_syntax::{LexCause, Piece, TokenKind};
 
 /// The most characters of an atom.
 pub(crate) const ATOM_LEN: usize = 255;
@@ -35,24 +36,6 @@ fn name_run(bs: &[u8]) -> usize
     n
 }
 
-/// Whether the word is spelled so.
-fn is_spelled(word: &[u8], kind: TokenKind) -> bool
-    ensures { result ≡ is_spelled word.now kind }
-{
-    let spelling = kind.spelling();
-    word.len() == spelling.len() && word.starts_with(spelling)
-}
-
-/// The reserved word that is spelled so.
-fn reserved(word: &[u8]) -> Option<TokenKind>
-    ensures { result ≡ find (is_spelled word.now) RESERVED }
-{
-    RESERVED
-        .iter()
-        .copied()
-        .find(|kind| is_spelled(word, *kind))
-}
-
 /// The kind of a name that is no reserved word.
 fn name_kind(name: &[u8]) -> TokenKind
     requires { 0 < length name.now }
@@ -73,7 +56,7 @@ fn named(name: &[u8]) -> Piece
     ensures value { result ≡ named (find (is_spelled name.now) RESERVED) name.now }
     ensures within { IsWithin (length name.now) result }
 {
-    match reserved(name) {
+    match TokenKind::reserved(name) {
         Some(word) => Piece::Token(word, name.len()),
         None => {
             if name[0].is_ascii_lowercase() && name.len() > ATOM_LEN {

@@ -1,5 +1,6 @@
 ghost use Rattle.std.specs.Prelude.{◌≡◌, ◌<◌, ◌≤◌, ◌==◌, not, length};
 ghost use Rattle.std.specs.List.{prefix_len};
+ghost use Rattle.erl_syntax.specs.Reading.{longest_text};
 ghost use Rattle.erl_syntax.specs.Tokens.{piece, comment, comment_len};
 ghost use Rattle.erl_tokens.specs.Pieces.{IsWithin};
 
@@ -39,7 +40,7 @@ fn comment(bs: &[u8], cut: bool) -> Piece
 /// What stands at the front of a text that isn't at its end. `cut` says that a byte follows the text that belongs to no character.
 pub(crate) fn front_piece(bs: &[u8], cut: bool) -> Piece
     requires some { 0 < length bs.now }
-    requires room { length bs.now ≤ 1048576 }
+    requires room { length bs.now ≤ longest_text }
     ensures value { result ≡ piece cut bs.now }
     ensures within { IsWithin (length bs.now) result }
 {

@@ -1,4 +1,5 @@
 ghost use Rattle.std.specs.Prelude.{◌≡◌, ◌<◌, ◌≤◌, ◌+◌, length, drop};
+ghost use Rattle.erl_syntax.specs.Reading.{longest_text};
 ghost use Rattle.erl_syntax.specs.Characters.{spelled, spelled_len, spelled_number, between_quotes};
 ghost use Rattle.erl_syntax.specs.Tokens.{no_escape, quoted, string, quoted_atom, character, limited};
 ghost use Rattle.erl_tokens.specs.Pieces.{IsWithin};
@@ -35,7 +36,7 @@ pub(crate) fn unit(bs: &[u8]) -> Escaped
 
 /// What a backslash makes of the text, where the bytes behind it begin no escape.
 fn no_escape(bs: &[u8], cut: bool, at: usize) -> Piece
-    requires { at < 1048576 }
+    requires { at < longest_text }
     ensures value { result ≡ no_escape cut at bs.now }
     ensures within { IsWithin (at + 1 + length bs.now) result }
 {
@@ -49,7 +50,7 @@ fn no_escape(bs: &[u8], cut: bool, at: usize) -> Piece
 /// The token of this kind up to the closing quote, or its first fault.
 fn quoted(bs: &[u8], mark: u8, kind: TokenKind, cut: bool) -> Piece
     requires some { 0 < length bs.now }
-    requires room { length bs.now ≤ 1048576 }
+    requires room { length bs.now ≤ longest_text }
     ensures value { result ≡ quoted mark kind cut 1 0 (drop 1 bs.now) }
     ensures within { IsWithin (length bs.now) result }
 {
@@ -89,7 +90,7 @@ fn spelled_count(bs: &[u8]) -> usize
 /// The string at the front.
 pub(crate) fn string(bs: &[u8], cut: bool) -> Piece
     requires some { 0 < length bs.now }
-    requires room { length bs.now ≤ 1048576 }
+    requires room { length bs.now ≤ longest_text }
     ensures value { result ≡ string cut bs.now }
     ensures within { IsWithin (length bs.now) result }
 {
@@ -99,7 +100,7 @@ pub(crate) fn string(bs: &[u8], cut: bool) -> Piece
 /// The quoted atom at the front.
 pub(crate) fn quoted_atom(bs: &[u8], cut: bool) -> Piece
     requires some { 0 < length bs.now }
-    requires room { length bs.now ≤ 1048576 }
+    requires room { length bs.now ≤ longest_text }
     ensures value { result ≡ quoted_atom cut bs.now }
     ensures within { IsWithin (length bs.now) result }
 {

@@ -26,7 +26,7 @@ fn after(b: u8, at: Span) -> Span
 }
 
 /// The place after these bytes.
-pub(crate) fn place_after(bs: &[u8], at: Span) -> Span
+pub fn place_after(bs: &[u8], at: Span) -> Span
     requires { (at.line + length bs.now < 2 ^ 31) × (at.column + length bs.now < 2 ^ 31) }
     ensures value { result ≡ place_from at (length bs.now) bs.now }
     ensures near { (result.line ≤ at.line + length bs.now) × (result.column ≤ at.column + length bs.now) }

@@ -15,6 +15,3 @@ mod words;
 pub use form::{Field, Item, Part, Straight};
 pub use numbers::{forms_have_trees, trees_are_read, trees_have_one_reading};
 pub use straight::straight_of;
-
-#[cfg(test)]
-mod tests;

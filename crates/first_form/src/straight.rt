@@ -1,4 +1,5 @@
 ghost use Rattle.std.specs.Prelude.{◌≡◌, ◌≤◌, length, All, IfOk, IfSome, None};
+ghost use Rattle.erl_syntax.specs.Reading.{longest_text};
 ghost use Rattle.first_form.specs.Form.{IsShort};
 ghost use Rattle.first_form.specs.TreeOf.{IsForm, IsTreeOf};
 ghost use Rattle.first_form.specs.declared.form.Straight.{Straight};
@@ -24,7 +25,7 @@ pub fn straight_of(
     text: &[u8],
     module: &Module,
 ) -> Result<Option<Straight>, AllocError>
-    requires { length text.now ≤ 1048576 }
+    requires { length text.now ≤ longest_text }
     ensures formed { IfOk result (λ found. IfSome found (λ straight. IsForm text.now straight × IsTreeOf «module».now straight)) }
     ensures none { IfOk result (λ found. found ≡ None → (straight : Straight) → IsForm text.now straight → IsTreeOf «module».now straight → ⊥) }
     ensures short { IfOk result (λ found. IfSome found (λ straight. All IsShort straight.items)) }

@@ -1,5 +1,6 @@
 // Whether a text has the words of a module.
 ghost use Rattle.std.specs.Prelude.{◌≡◌, ◌≤◌, ◌↔◌, ℕ, List, length, map, All, IfOk, MatchBool, IsTrue};
+ghost use Rattle.erl_syntax.specs.Reading.{longest_text};
 ghost use Rattle.erl_syntax.specs.Tokens.{IsWithin, token_text};
 ghost use Rattle.first_form.specs.Form.{IsStraight};
 ghost use Rattle.first_form.specs.TreeOf.{IsForm, words_of};
@@ -28,7 +29,7 @@ fn are_words(text: &[u8], tokens: &[Token], words: &[Text]) -> bool
 
 // Whether a text has the words of a module.
 pub(crate) fn has_words(alloc: Global, text: &[u8], straight: &Straight) -> Result<bool, AllocError>
-    requires { length text.now ≤ 1048576 }
+    requires { length text.now ≤ longest_text }
     ensures told { IfOk result (λ has. IsStraight straight.now → MatchBool has (IsForm text.now straight.now) (IsForm text.now straight.now → ⊥)) }
     ensures few { IfOk result (λ has. IsTrue has → length (words_of straight.now) ≤ length text.now) }
 {

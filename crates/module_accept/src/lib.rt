@@ -4,7 +4,5 @@
 mod accepting;
 mod causes;
 mod lines;
-#[cfg(test)]
-mod tests;
 
 pub use accepting::{Refusal, accept};

@@ -7,12 +7,8 @@ pub mod operators;
 mod pattern_leaves;
 pub mod pattern_segments;
 mod pattern_starts;
-#[cfg(test)]
-mod pattern_tests;
 pub mod patterns;
 pub mod placed;
 pub mod segment_types;
 pub mod sizes;
 pub mod source;
-#[cfg(test)]
-mod tests;

@@ -8,6 +8,3 @@ mod words;
 pub use erl_syntax::{Kind, SegFault, SideUse, SizeUse, Typed};
 pub use laws::one_type;
 pub use typing::type_segment;
-
-#[cfg(test)]
-mod tests;

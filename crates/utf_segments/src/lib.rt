@@ -8,6 +8,3 @@ mod laws;
 pub use decoding::decode;
 pub use encoding::{BadChar, encode};
 pub use laws::{character_reads_back, one_character};
-
-#[cfg(test)]
-mod tests;

@@ -1,0 +1,22 @@
+use module_accept::{Refusal, accept};
+use std::alloc::Global;
+use std::process::Abort;
+use std::test::Fail;
+
+/// Compares what the check of a text says with what it has to say: `ok`, or the line of its first fault without its line feed.
+pub fn says(rt: &impl Abort, alloc: Global, text: &str, wanted: &str) -> Result<(), Fail> {
+    let found = match accept(alloc, text.as_bytes()) {
+        Ok(_) => b"ok\n".to_vec(alloc)?,
+        Err(Refusal::Line(line)) => line,
+        Err(Refusal::Memory) => return Err(Fail::from("out of memory")),
+    };
+    let line = format!(in alloc; "{wanted}\n")?;
+    assert_eq!(rt; found.as_slice(), line.as_bytes(), "{text}");
+    Ok(())
+}
+
+/// The same for a module with these forms behind its two attributes, so that they begin in line 3.
+pub fn forms_say(rt: &impl Abort, alloc: Global, forms: &str, wanted: &str) -> Result<(), Fail> {
+    let text = format!(in alloc; "-module(m).\n-export([main/0]).\n{forms}\n")?;
+    says(rt, alloc, text.as_str(), wanted)
+}

@@ -1,0 +1,7 @@
+//! Tests of bits and characters: what the definitions mean, row by row. The crates below keep no tests of their own.
+#![tactic(auto)]
+
+#[cfg(test)]
+mod bit_tests;
+#[cfg(test)]
+mod character_tests;
