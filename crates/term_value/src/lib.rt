@@ -17,8 +17,6 @@ mod rows;
 mod runs;
 mod showing;
 mod term;
-#[cfg(test)]
-mod tests;
 mod tuple;
 
 pub use arithmetic::arith;

@@ -1,7 +1,9 @@
-//! Tests of bits and characters: what the definitions mean, row by row. The crates below keep no tests of their own.
+//! Tests of bits, characters and terms: what the definitions mean, row by row. The crates below keep no tests of their own.
 #![tactic(auto)]
 
 #[cfg(test)]
 mod bit_tests;
 #[cfg(test)]
 mod character_tests;
+#[cfg(test)]
+mod term_tests;

@@ -1,16 +1,16 @@
 ghost use Rattle.std.specs.Prelude.{◌≡◌, ◌≤◌, ◌*◌, ◌<◌, length, slice_index_or, []};
 
-use crate::{
-    Arith, Cells, Look, Term, arith, calls_are_read, character_reads_back, compare,
-    complete_is_last, depth, each_asks, entry_is_line, equal_is_same, free_shrinks,
-    guards_contract, integer_reads_back, legal_is_short, list_of, names_by_characters, one_order,
-    order_is_total, outcome_reports, show, tuple_of, weight,
-};
 use bits_value::{Bits, Frozen};
 use erl_syntax::{Op, Text};
 use std::alloc::{AllocError, Global};
 use std::cmp::Ordering;
 use std::test::Fail;
+use term_value::{
+    Arith, Cells, Look, Term, arith, calls_are_read, character_reads_back, compare,
+    complete_is_last, depth, each_asks, entry_is_line, equal_is_same, free_shrinks,
+    guards_contract, integer_reads_back, legal_is_short, list_of, names_by_characters, one_order,
+    order_is_total, outcome_reports, show, tuple_of, weight,
+};
 
 /// Atoms by a table of names, and bitstrings that are their own references.
 #[derive(Drop)]
