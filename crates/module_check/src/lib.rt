@@ -24,10 +24,3 @@ pub use checking::{Checked, check};
 pub use laws::{one_list_of_uses, one_numbering};
 pub use names::{has_function, is_before, is_exported};
 pub use order::first_of;
-
-#[cfg(test)]
-mod tests;
-#[cfg(test)]
-mod trees_tests;
-#[cfg(test)]
-mod vars_tests;

@@ -16,6 +16,8 @@ mod saying;
 #[cfg(test)]
 mod segment_tests;
 #[cfg(test)]
+mod shared_place_tests;
+#[cfg(test)]
 mod syntax_tests;
 #[cfg(test)]
 mod token_tests;

@@ -1,8 +1,8 @@
-use crate::check;
 use erl_syntax::{
     CheckCause, CheckFault, Clause, Expr, Function, Guard, Head, Item, Listed, Module, Name,
     Pattern, Span, Text, VarUse,
 };
+use module_check::check;
 use std::alloc::{AllocError, Global};
 use std::test::Fail;
 
