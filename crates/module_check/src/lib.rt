@@ -21,6 +21,6 @@ mod walk;
 pub use built_ins::built_in;
 pub use calls::is_spelled;
 pub use checking::{Checked, check};
-pub use laws::{one_list_of_uses, one_numbering};
+pub use laws::{one_list_of_uses, one_numbering, reads_have_values};
 pub use names::{has_function, is_before, is_exported};
 pub use order::first_of;
