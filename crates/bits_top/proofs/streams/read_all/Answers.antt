@@ -1,4 +1,4 @@
-use Rattle.std.proofs.Common.{arith}
+use Rattle.std.proofs.Common.{◌+◌, arith}
 use Rattle.bits_top.proofs.Taken.{taken_more}
 use Rattle.bits_top.proofs.streams.read_all.Goals as goal
 
