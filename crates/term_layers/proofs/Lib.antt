@@ -10,6 +10,7 @@ pub mod ScopedMachine
 pub mod ScopedMatch
 pub mod ScopedPut
 pub mod ScopedSteps
+pub mod ScopedTests
 pub mod Turns
 pub mod Twice
 pub mod Under

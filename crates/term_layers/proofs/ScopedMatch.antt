@@ -86,7 +86,7 @@ module _ (s : Setting) where
   CutBinds names bs _ = Unit {0}
 
   -- a target under bindings, of a segment with these variables
-  abbrev Wants : List ℕ → List Bound → Target → Type 0
+  abbrev pub Wants : List ℕ → List Bound → Target → Type 0
   Wants names bs (Variable x) = (v : Value) → Binds names bs (bound_to x v bs)
   Wants names bs _ = Binds names bs bs
 
@@ -94,7 +94,7 @@ module _ (s : Setting) where
   variable_wants bs x None e = λ v. binds_new bs x v
   variable_wants bs x (Some w) e = binds_known bs x (value_known bs x (subst Has e tt))
 
-  target_wants : (bs : List Bound) (target : Target) → Wants (target_names target) bs (in_target bs target)
+  pub target_wants : (bs : List Bound) (target : Target) → Wants (target_names target) bs (in_target bs target)
   target_wants bs Anything = binds_none bs
   target_wants bs (Variable x) = variable_wants bs x (value_in bs x) refl
   target_wants bs (Equal v) = binds_none bs
@@ -127,7 +127,7 @@ module _ (s : Setting) where
     wanted_binds target (Some f) h = where_taken_binds (is_bindable target f.value) (met s target f.value bs) f.rest (met_binds target f.value h)
     wanted_binds target None h = tt
 
-    taken_binds : (typed : Typed) (target : Target) (bits : List Bool) (o : Option Extent) → Wants names bs target → CutBinds names bs (taken_by s typed target bs bits o)
+    pub taken_binds : (typed : Typed) (target : Target) (bits : List Bool) (o : Option Extent) → Wants names bs target → CutBinds names bs (taken_by s typed target bs bits o)
     taken_binds typed target bits (Some e) h = wanted_binds target (cut typed e bits) h
     taken_binds typed target bits None h = tt
 

@@ -40,7 +40,7 @@ lift_each P Q ready around (Asks ask next) h g r = λ v. g (next v) (h v)
 lift_each P Q ready around (Looks cs next) h g r = (h.0, λ t k. g (next t) (h.1 t k))
 
 -- with what a match bound put in, nothing more has to be known
-fits_bound : (names : List ℕ) (bs : List Bound) → Binds names [] bs → Fits bs (names ++ []) []
+pub fits_bound : (names : List ℕ) (bs : List Bound) → Binds names [] bs → Fits bs (names ++ []) []
 fits_bound names bs b = record {
   covers = λ x h. inl (has_value bs x (b.bound x (let P : List ℕ → Type 0 = λ l. Contains l x in subst P (append-nil names) h)));
   within = λ x h. absurd (none_in x h);

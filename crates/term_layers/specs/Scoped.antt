@@ -1,13 +1,15 @@
 -- Which variables an expression may have (Erlang Reference Manual, "Expressions": "Variables", "Patterns"; "Bit Syntax Expressions";
 -- "Comprehensions"): each stands where it has a value, the variables of a generator are new ones, and guards and sizes are guard
 -- expressions. An expression that has all its values is scoped with no variable known.
-use Rattle.std.specs.Prelude.{◌≡◌, ℕ, false, List, [], ◌∷◌, ◌++◌, map, Some, ◌⊎◌, ◌↔◌}
+use Rattle.std.specs.Prelude.{◌≡◌, ℕ, Bool, false, List, [], ◌∷◌, ◌++◌, map, Some, ◌⊎◌, ◌↔◌}
 use Rattle.std.specs.List.{All, Contains}
-use Rattle.term_value.specs.Value.{Value}
+use Rattle.term_value.specs.Value.{Value, Values}
 use Rattle.term_value.specs.Setting.{Setting}
+use Rattle.erl_syntax.specs.declared.typing.Typed.{Typed}
 use Rattle.term_value.specs.Tree.{Bound, Target, Variable, Row, Found, Skipped, RowLimit, Tree, Val, Var, All as Formed, First, Choose, Receive, Gather, Trees, end, and, Shut, Then, Last, Alts, AndAlso, OrElse, Clauses, no_clause, clause, Guard, never, or, Quals, turn, give, from, test, Generator, InList, InBits, Levels, bottom, level, Pattern, PWild, PVar, PVal, PTuple, PList, PListOn, PBits, PSame, Patterns, no_pattern, pattern_and, Segments, no_segment, segment, Function, Module}
-use Rattle.term_value.specs.PutIn.{value_in, put_in}
-use Rattle.term_value.specs.Match.{Yes, matched}
+use Rattle.term_value.specs.PutIn.{value_in, put_in, puts_in, in_guard}
+use Rattle.term_value.specs.Decode.{Cut, taken}
+use Rattle.term_value.specs.Match.{Yes, matched, each_matched}
 use Rattle.term_value.specs.Rows.{shape, one_mentions}
 use Rattle.term_value.specs.GuardLaws.{AreTests}
 use Rattle.term_value.specs.Local.{Local, Course, At, Fell, Next, On, Asking, ForMore, Done, Raised, next_of, Contracts}
@@ -193,6 +195,19 @@ MatchNames = (s : Setting) (p : Pattern) (v : Value) (bs cs : List Bound) → ma
 -- a guard, or a size in a pattern, with the values of all that is known put in, has no variable
 abbrev pub TestsHaveNone : Type 0
 TestsHaveNone = (ts : Trees) → AreTests ts → AreScoped [] ts → (x : ℕ) → one_mentions x ts ≡ false
+
+-- a guard is scoped once what its patterns bound is put in
+abbrev pub GuardsHaveValues : Type 0
+GuardsHaveValues = (s : Setting) (ps : Patterns) (vs : Values) (bs : List Bound) (guard : Guard)
+    → IsGuardScoped (patterns_names ps ++ []) guard → each_matched s ps vs [] ≡ Yes bs → IsGuardScoped [] (in_guard bs guard)
+
+-- Where the variables that are known have values, the size of a segment is scoped once these are put in, and behind the segment its
+-- own variable has a value too.
+abbrev pub SizesHaveValues : Type 0
+SizesHaveValues = (s : Setting) (typed : Typed) (target : Target) (size : Trees) (ss : Segments) (known : List ℕ) (bs : List Bound) (bits : List Bool)
+    → ((x : ℕ) → Contains known x → Contains (variables bs) x) → AreSegmentsScoped known (segment typed target size ss)
+    → AreScoped [] (puts_in bs size)
+    × ((cs : List Bound) (rest : List Bool) → taken s typed target size bs bits ≡ Cut cs rest → (x : ℕ) → Contains (target_names target ++ known) x → Contains (variables cs) x)
 
 -- where a bit pattern is scoped, its shape is
 abbrev pub ShapeIsScoped : Type 0

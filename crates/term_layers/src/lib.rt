@@ -18,6 +18,7 @@ pub use layers::{
     ask_reached, form_acts, giving_next, next_under, opening_next, runs_under, step_under,
 };
 pub use scoped::{
-    known_has_value, match_names, next_stays_scoped, none_unbound, open_has_value,
-    orders_stay_scoped, put_stays_scoped, run_stays_scoped, shape_is_scoped, tests_have_none,
+    guards_have_values, known_has_value, match_names, next_stays_scoped, none_unbound,
+    open_has_value, orders_stay_scoped, put_stays_scoped, run_stays_scoped, shape_is_scoped,
+    sizes_have_values, tests_have_none,
 };

@@ -1,5 +1,5 @@
 //! Which variables an expression may have, and that none is ever without its value.
-ghost use Rattle.term_layers.specs.Scoped.{KnownHasValue, MatchNames, NextStaysScoped, NoneUnbound, OpenHasValue, OrdersStayScoped, PutStaysScoped, RunStaysScoped, ShapeIsScoped, TestsHaveNone};
+ghost use Rattle.term_layers.specs.Scoped.{GuardsHaveValues, KnownHasValue, MatchNames, NextStaysScoped, NoneUnbound, OpenHasValue, OrdersStayScoped, PutStaysScoped, RunStaysScoped, ShapeIsScoped, SizesHaveValues, TestsHaveNone};
 
 /// What is scoped goes on to what is scoped, in a module whose functions are.
 pub fn next_stays_scoped()
@@ -44,6 +44,17 @@ pub fn match_names()
 /// A guard, or a size in a pattern, that is scoped with nothing known has no variable.
 pub fn tests_have_none()
     ensures { TestsHaveNone }
+{}
+
+/// A guard is scoped once what its patterns bound is put in.
+pub fn guards_have_values()
+    ensures { GuardsHaveValues }
+{}
+
+/// The size of a pattern's segment is scoped once the values of all known variables are put in, and behind the segment its own
+/// variable has a value too.
+pub fn sizes_have_values()
+    ensures { SizesHaveValues }
 {}
 
 /// Where a bit pattern is scoped, its shape is.
