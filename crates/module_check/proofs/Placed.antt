@@ -1,11 +1,11 @@
 -- The variables of a function, by the part to which they belong.
-use Rattle.std.proofs.Common.{◌≡◌, ℕ, ◌<◌, List, [], ◌∷◌, ◌++◌, length, take, arith, Option, Some, None, refl, sym, ◌∙◌, ap, subst, ◌⊎◌, inl, inr}
+use Rattle.std.proofs.Common.{◌≡◌, ℕ, List, [], ◌∷◌, ◌++◌, take, Option, Some, None, refl, sym, ◌∙◌, ap, subst, inl, inr}
 use Rattle.std.specs.List.{Contains}
 use Rattle.std.specs.Option.{option_to_list}
-use Rattle.std.proofs.lemmas.List.Elements.{Contains-append_left, Contains-append_right, Contains-append_cases, Contains-push}
+use Rattle.std.proofs.lemmas.List.Elements.{Contains-append_left, Contains-append_cases, Contains-push}
 use Rattle.erl_syntax.specs.Bindings.{Bound}
 use Rattle.erl_syntax.specs.Scopes
-use Rattle.erl_syntax.specs.Scopes.{Scope, AnExpr, APattern, ABody, ASegment, Stands, IsKnown, Found}
+use Rattle.erl_syntax.specs.Scopes.{Scope, IsKnown, Found}
 use Rattle.erl_syntax.specs.Checking.{Place}
 use Rattle.erl_syntax.specs.declared.span.Span.{Span}
 use Rattle.erl_syntax.specs.declared.expr.Expr.{Expr, out-Expr, out-roll-Expr}
@@ -26,15 +26,12 @@ use Rattle.module_check.specs.declared.places.Occurrence.{Occurrence}
 use Rattle.module_check.specs.declared.tasks.Task.{Task}
 use Rattle.module_check.specs.declared.tasks.Walk.{Walk}
 use Rattle.module_check.specs.Nodes.{TreeOf, Sees}
-use Rattle.module_check.specs.Spots.{Spot, inside, clauses_in, Under, here, deeper, IsUnder}
-use Rattle.module_check.specs.Tasks.{Fits, AllFit, Adds}
+use Rattle.module_check.specs.Spots.{Spot, clauses_in, IsUnder}
+use Rattle.module_check.specs.Tasks.{Fits, left_in, Adds}
 use Rattle.module_check.specs.Places.{seen, kept, Reads, Meets, ExprPlace, PatternPlace, ValuePlace, SegmentPlace, OwnPlace, InnerPlace, IsOnly, AreAll}
 use Rattle.module_check.proofs.Chained.{found_known, one_place_of, same_known, flip}
 use Rattle.module_check.proofs.Spots.{none_in, only_one}
-use Rattle.module_check.proofs.Complete.{one_more}
-use Rattle.module_check.proofs.Sizes.{left_over, falls_by}
-use Rattle.module_check.proofs.Tasked.{all_joined, all_from_none, all_cut}
-use Rattle.module_check.proofs.Walking.{last_of}
+use Rattle.module_check.proofs.Walking.{Walked, walked_cut, walked_start, walked_all, stepped}
 
 same_place : (a : Place) (at bound_at : Span) → a.at ≡ at → a.bound_at ≡ bound_at → a ≡ record { at = at; bound_at = bound_at }
 same_place a at bound_at e h =
@@ -96,99 +93,47 @@ on_side s on sg to r e h = let P : SideUse → Type 0 = λ v. IsOnly (SegmentPla
 pub own_part : (s : Scope) (y z : Scopes.Part) (r : Option Occurrence) → z ≡ y → IsOnly (OwnPlace s z) r → IsOnly (OwnPlace s y) r
 own_part s y z r e h = let P : Scopes.Part → Type 0 = λ v. IsOnly (OwnPlace s v) r in subst P e h
 
+-- the variable that the spot is by itself is found
+abbrev pub IsFound : List Occurrence → Spot → Type 0
+IsFound found d = (a : Place) → OwnPlace d.scope d.part a → Contains found (kept a)
+
 -- what is looked at, and what is left
 pub record Reached (f : Function) (nodes : List Node) (tasks : List Task) (found : List Occurrence) : Type 0 where
-  pub spots : List Spot
-  pub fit : AllFit nodes 0 tasks spots
-  pub stand : (d : Spot) → Contains spots d → IsUnder f d
   pub told : (o : Occurrence) → Contains found o → InnerPlace f (seen o)
-  pub covers : (d : Spot) → IsUnder f d → ((a : Place) → OwnPlace d.scope d.part a → Contains found (kept a)) ⊎ ((e : Spot) × (Contains spots e × Under e d))
+  pub walked : Walked f (IsFound found) nodes tasks
 
--- the nodes above the mark of the last task are let go
 pub reached_cut : (f : Function) (nodes cut : List Node) (tasks rest : List Task) (task : Task) (found : List Occurrence) → tasks ≡ rest ++ task ∷ [] → cut ≡ take task.mark nodes → Reached f nodes tasks found → Reached f cut tasks found
-reached_cut f nodes cut tasks rest task found e is l =
-    let P : List Task → Type 0 = λ zs. AllFit nodes 0 zs l.spots in
-    let Q : List Task → Type 0 = λ zs. AllFit cut 0 zs l.spots in
-    let R : List Node → Type 0 = λ ns. AllFit ns 0 (rest ++ task ∷ []) l.spots in
-    record { spots = l.spots; fit = subst Q (sym e) (subst R (sym is) (all_cut nodes 0 rest task l.spots (subst P e l.fit)).0); stand = l.stand; told = l.told; covers = l.covers }
+reached_cut f nodes cut tasks rest task found e is l = record { told = l.told; walked = walked_cut f (IsFound found) nodes cut tasks rest task e is l.walked }
 
 pub start : (f : Function) (w v : Walk) (found : List Occurrence) → w.tasks.items ≡ [] → found ≡ [] → Adds w v (clauses_in f) → Reached f v.nodes.items v.tasks.items found
-start f w v found e none a =
-    let P : List Task → Type 0 = λ zs. AllFit v.nodes.items 0 zs (clauses_in f) in
-    record {
-      spots = clauses_in f;
-      fit = subst P (sym (a.is ∙ ap (λ zs. zs ++ a.added) e)) (all_from_none v.nodes.items (length w.nodes.items) a.added (clauses_in f) a.fit);
-      stand = λ d h. record { root = d; among = h; under = here d d refl };
-      told = λ o h. absurd (let Q : List Occurrence → Type 0 = λ zs. Contains zs o in none_in o (subst Q none h));
-      covers = λ d h. inr (h.root, (h.among, h.under));
-    }
+start f w v found e none a = record {
+  told = λ o h. absurd (let Q : List Occurrence → Type 0 = λ zs. Contains zs o in none_in o (subst Q none h));
+  walked = walked_start f (IsFound found) w v e a;
+}
 
-module _ (f : Function) (d0 : Spot) (found : List Occurrence) (own : Option Occurrence) (only : IsOnly (OwnPlace d0.scope d0.part) own) where
+module _ (f : Function) (d0 : Spot) (found : List Occurrence) where
   told_one : (stood : IsUnder f d0) (r : Option Occurrence) → IsOnly (OwnPlace d0.scope d0.part) r → (o : Occurrence) → Contains (option_to_list r) o → InnerPlace f (seen o)
   told_one stood None k o h = absurd (none_in o h)
   told_one stood (Some y) k o h = (d0, (stood, (let P : Occurrence → Type 0 = λ z. OwnPlace d0.scope d0.part (seen z) in subst P (only_one y o h) k.0)))
 
-  own_in : (r : Option Occurrence) → IsOnly (OwnPlace d0.scope d0.part) r → (a : Place) → OwnPlace d0.scope d0.part a → Contains (found ++ option_to_list r) (kept a)
+  own_in : (r : Option Occurrence) → IsOnly (OwnPlace d0.scope d0.part) r → IsFound (found ++ option_to_list r) d0
   own_in None k a h = absurd (k a h)
   own_in (Some y) k a h = let P : Occurrence → Type 0 = λ z. Contains (found ++ y ∷ []) z in subst P (sym (ap kept (k.1 a h))) (Contains-push found y)
 
-  by_under : (d : Spot) (before : List Spot) → Under d0 d → ((a : Place) → OwnPlace d.scope d.part a → Contains (found ++ option_to_list own) (kept a)) ⊎ ((e : Spot) × (Contains (before ++ inside d0.scope d0.part) e × Under e d))
-  by_under d before (here _ _ e) = inl (λ a z. own_in own only a (let S : Spot → Type 0 = λ v. OwnPlace v.scope v.part a in subst S (sym e) z))
-  by_under d before (deeper _ b _ i u) = inr (b, (Contains-append_right before (inside d0.scope d0.part) b i, u))
-
-  cover : (d : Spot) (before : List Spot) (e : Spot) → Contains (before ++ d0 ∷ []) e → Under e d → ((a : Place) → OwnPlace d.scope d.part a → Contains (found ++ option_to_list own) (kept a)) ⊎ ((e : Spot) × (Contains (before ++ inside d0.scope d0.part) e × Under e d))
-  cover d before e h u = elim (Contains-append_cases before (d0 ∷ []) e h) [
-    | inl k ↦ inr (e, (Contains-append_left before (inside d0.scope d0.part) e k, u))
-    | inr k ↦ by_under d before (let S : Spot → Type 0 = λ v. Under v d in subst S (sym (only_one d0 e k)) u)
-  ]
-
 pub step : (f : Function) (w v : Walk) (old rest : List Task) (task : Task) (found new : List Occurrence) (own : Option Occurrence) → old ≡ rest ++ task ∷ [] → w.tasks.items ≡ rest
-    → ((d : Spot) → Fits w.nodes.items task d → IsOnly (OwnPlace d.scope d.part) own) → new ≡ found ++ option_to_list own → ((d : Spot) → Fits w.nodes.items task d → Adds w v (inside d.scope d.part))
+    → ((d : Spot) → Fits w.nodes.items task d → IsOnly (OwnPlace d.scope d.part) own) → new ≡ found ++ option_to_list own → ((d : Spot) → Fits w.nodes.items task d → Adds w v (left_in task.whole d))
     → Reached f w.nodes.items old found → Reached f v.nodes.items v.tasks.items new
 step f w v old rest task found new own e g o is adds l =
-    let P : List Task → Type 0 = λ zs. AllFit w.nodes.items 0 zs l.spots in
-    let p = last_of w.nodes.items 0 rest task l.spots (subst P e l.fit) in
-    let d0 = p.one in
-    let a = adds d0 p.fits in
-    let ins = inside d0.scope d0.part in
-    let Q : List Spot → Type 0 = λ zs. Contains zs d0 in
-    let stood : IsUnder f d0 = l.stand d0 (subst Q (sym p.is) (Contains-push p.before d0)) in
-    let R : List Task → Type 0 = λ zs. AllFit v.nodes.items 0 zs (p.before ++ ins) in
-    let only = o d0 p.fits in
+    let p = stepped f (IsFound found) w v old rest task e g adds l.walked in
+    let only = o p.spot p.fits in
     let T : List Occurrence → Type 0 = λ zs. Reached f v.nodes.items v.tasks.items zs in
     subst T (sym is) (record {
-      spots = p.before ++ ins;
-      fit = subst R (sym (a.is ∙ ap (λ zs. zs ++ a.added) g)) (all_joined w.nodes.items v.nodes.items 0 rest a.added p.before ins a.grown (omega arith) p.fit a.fit);
-      stand = λ d h. elim (Contains-append_cases p.before ins d h) [
-        | inl k ↦ l.stand d (let S : List Spot → Type 0 = λ zs. Contains zs d in subst S (sym p.is) (Contains-append_left p.before (d0 ∷ []) d k))
-        | inr k ↦ one_more f d0 d stood k
-      ];
       told = λ y h. elim (Contains-append_cases found (option_to_list own) y h) [
         | inl k ↦ l.told y k
-        | inr k ↦ told_one f d0 found own only stood own only y k
+        | inr k ↦ told_one f p.spot found p.stood own only y k
       ];
-      covers = λ d h. elim (l.covers d h) [
-        | inl k ↦ inl (λ b z. Contains-append_left found (option_to_list own) (kept b) (k b z))
-        | inr k ↦ cover f d0 found own only d p.before k.0 (let S : List Spot → Type 0 = λ zs. Contains zs k.0 in subst S p.is k.1.0) k.1.1
-      ];
+      walked = p.walked (IsFound (found ++ option_to_list own)) (λ d h a z. Contains-append_left found (option_to_list own) (kept a) (h a z)) (own_in f p.spot found own only);
     })
 
-none_fit : (nodes : List Node) (spots : List Spot) → AllFit nodes 0 [] spots → spots ≡ []
-none_fit nodes [] h = refl
-none_fit nodes (d ∷ ds) h = absurd h
-
 pub finish : (f : Function) (nodes : List Node) (tasks : List Task) (found : List Occurrence) → tasks ≡ [] → Reached f nodes tasks found → AreAll (InnerPlace f) found
-finish f nodes tasks found e l =
-    let P : List Task → Type 0 = λ zs. AllFit nodes 0 zs l.spots in
-    let none = none_fit nodes l.spots (subst P e l.fit) in
-    record {
-      hold = l.told;
-      whole = λ a k. elim (l.covers k.0 k.1.0) [
-        | inl z ↦ z a k.1.1
-        | inr z ↦ absurd (let S : List Spot → Type 0 = λ zs. Contains zs z.0 in none_in z.0 (subst S none z.1.0))
-      ];
-    }
-
-pub falls : (f : Function) (w v : Walk) (old rest : List Task) (task : Task) (found : List Occurrence) → old ≡ rest ++ task ∷ [] → w.tasks.items ≡ rest
-    → ((d : Spot) → Fits w.nodes.items task d → Adds w v (inside d.scope d.part)) → Reached f w.nodes.items old found → left_over v.tasks.items < left_over old
-falls f w v old rest task found e g adds l = falls_by w v old rest task l.spots e g adds l.fit
+finish f nodes tasks found e l = record { hold = l.told; whole = λ a k. walked_all f (IsFound found) nodes tasks e l.walked k.0 k.1.0 a k.1.1 }

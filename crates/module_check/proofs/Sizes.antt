@@ -1,5 +1,5 @@
 -- How much is left to look at: how many parts there are.
-use Rattle.std.proofs.Common.{◌≡◌, ℕ, ◌+◌, ◌<◌, ◌≤◌, List, [], ◌∷◌, ◌++◌, length, map, reverse, Option, Some, None, refl, ◌∙◌, ap, subst, inl, inr, arith}
+use Rattle.std.proofs.Common.{◌≡◌, ℕ, ◌+◌, ◌<◌, ◌≤◌, Bool, true, false, List, [], ◌∷◌, ◌++◌, length, map, reverse, Option, Some, None, refl, ◌∙◌, ap, subst, inl, inr, arith}
 use Rattle.std.proofs.lemmas.List.{reverse-append, map-append}
 use Rattle.erl_syntax.specs.Bindings.{targets}
 use Rattle.erl_syntax.specs.Scopes.{Scope, Part, AnExpr, APattern, ABody, ASegment, with_known, behind, in_guard, to_generate, past_items, generated, past_quals, past_row}
@@ -13,7 +13,6 @@ use Rattle.erl_syntax.specs.declared.clause.Item.{Item}
 use Rattle.erl_syntax.specs.declared.clause.Guard.{Guard}
 use Rattle.erl_syntax.specs.declared.clause.Alt.{Alt, out-Alt}
 use Rattle.erl_syntax.specs.declared.clause.Branch.{Branch, out-Branch}
-use Rattle.erl_syntax.specs.declared.module.Function.{Function}
 use Rattle.erl_syntax.specs.declared.typing.SideUse.{SideUse}
 use Rattle.erl_syntax.specs.declared.typing.SideUse.TheVariants as side
 use Rattle.module_check.specs.Spots.{Spot, spot, each, expr_in, exprs_in, same_in, tests_in, guard_in, pattern_in, patterns_in, matched_in, item_in, items_in, built_in_turn, segment_in, alt_layer_in, alt_in, branch_layer_in, branch_in, qual_layer_in, qual_in, quals_in, comprehension_in, expr_layer_in, inside_expr, pattern_layer_in, inside_pattern, size_scope, inside_segment, inside}
@@ -22,13 +21,11 @@ use Rattle.erl_syntax.specs.declared.segment.Spec.{Spec}
 use Rattle.module_check.specs.declared.trees.Node.{Node}
 use Rattle.module_check.specs.declared.tasks.Task.{Task}
 use Rattle.module_check.specs.declared.tasks.Walk.{Walk}
-use Rattle.module_check.specs.Tasks.{part_of, Fits, AllFit, Adds}
+use Rattle.module_check.specs.Tasks.{part_of, Fits, Look, left_in, Covers, no_spots, as_whole, by_itself, AllFit, Adds}
 use Rattle.std.specs.List.{Contains}
 use Rattle.std.proofs.lemmas.List.Elements.{Contains-append_cases}
 use Rattle.module_check.proofs.Spots.{none_in, only_one}
-use Rattle.module_check.proofs.Walking.{Looked, last_of}
-use Rattle.erl_syntax.specs.declared.checking.CheckFault.{CheckFault}
-use Rattle.erl_syntax.specs.declared.module.Module.{Module}
+use Rattle.module_check.proofs.Walking.{last_of}
 
 abbrev pub tot : List ℕ → ℕ
 tot [] = 0
@@ -293,34 +290,61 @@ within (e ∷ ds) d h = elim (Contains-append_cases (e ∷ []) ds d h) [
   | inr k ↦ (let r = within ds d k in omega (arith, r))
 ]
 
+-- what stands inside a spot that is looked at by itself is counted for its own tasks
+abbrev share : Bool → Part → ℕ
+share true y = size_of_part y
+share false y = 1
+
 abbrev pub left_over : List Task → ℕ
 left_over [] = 0
-left_over (t ∷ ts) = size_of_part (part_of t.part) + left_over ts
+left_over (t ∷ ts) = share t.whole (part_of t.part) + left_over ts
+
+abbrev shares : List Look → ℕ
+shares [] = 0
+shares (l ∷ ls) = share l.whole l.spot.part + shares ls
 
 left_joined : (ts us : List Task) → left_over (ts ++ us) ≡ left_over ts + left_over us
 left_joined [] us = omega arith
 left_joined (t ∷ ts) us = (let h = left_joined ts us in omega (arith, h))
 
-left_total : (nodes : List Node) (least : ℕ) (ts : List Task) (ds : List Spot) → AllFit nodes least ts ds → left_over ts ≡ total ds
+shares_joined : (ls ms : List Look) → shares (ls ++ ms) ≡ shares ls + shares ms
+shares_joined [] ms = omega arith
+shares_joined (l ∷ ls) ms = (let h = shares_joined ls ms in omega (arith, h))
+
+left_total : (nodes : List Node) (least : ℕ) (ts : List Task) (ls : List Look) → AllFit nodes least ts ls → left_over ts ≡ shares ls
 left_total nodes least [] [] h = refl
 left_total nodes least [] (d ∷ ds) h = absurd h
 left_total nodes least (t ∷ ts) [] h = absurd h
-left_total nodes least (t ∷ ts) (d ∷ ds) h = (let a = left_total nodes t.mark ts ds h.1 in let b = ap size_of_part h.0.fits.part in omega (arith, a, b))
+left_total nodes least (t ∷ ts) (l ∷ ls) h =
+    let a = left_total nodes t.mark ts ls h.1 in
+    let b : share t.whole (part_of t.part) ≡ share l.whole l.spot.part = ap (λ z. share z (part_of t.part)) h.0.whole ∙ ap (share l.whole) h.0.fits.part in
+    omega (arith, a, b)
 
-pub falls_by : (w v : Walk) (old rest : List Task) (task : Task) (spots : List Spot) → old ≡ rest ++ task ∷ [] → w.tasks.items ≡ rest
-    → ((d : Spot) → Fits w.nodes.items task d → Adds w v (inside d.scope d.part)) → AllFit w.nodes.items 0 old spots → left_over v.tasks.items < left_over old
-falls_by w v old rest task spots e g adds fit =
-    let P : List Task → Type 0 = λ zs. AllFit w.nodes.items 0 zs spots in
-    let p = last_of w.nodes.items 0 rest task spots (subst P e fit) in
-    let d = p.one in
+shares_total : (ds : List Spot) (ls : List Look) → Covers ds ls → shares ls ≤ total ds
+shares_total _ _ no_spots = omega arith
+shares_total _ _ (as_whole d ds ls c) = (let h = shares_total ds ls c in omega (arith, h))
+shares_total _ _ (by_itself d ds within ls i c) =
+    let a = shares_total (inside d.scope d.part) within i in
+    let b = shares_total ds ls c in
+    let j = shares_joined within ls in
+    let less = smaller d.scope d.part in
+    omega (arith, a, b, j, less)
+
+left_less : (b : Bool) (d : Spot) → total (left_in b d) < share b d.part
+left_less true d = smaller d.scope d.part
+left_less false d = omega arith
+
+pub falls : (w v : Walk) (old rest : List Task) (task : Task) (looks : List Look) → old ≡ rest ++ task ∷ [] → w.tasks.items ≡ rest
+    → ((d : Spot) → Fits w.nodes.items task d → Adds w v (left_in task.whole d)) → AllFit w.nodes.items 0 old looks → left_over v.tasks.items < left_over old
+falls w v old rest task looks e g adds fit =
+    let P : List Task → Type 0 = λ zs. AllFit w.nodes.items 0 zs looks in
+    let p = last_of w.nodes.items 0 rest task looks (subst P e fit) in
+    let d = p.one.spot in
     let a = adds d p.fits in
     let new : left_over v.tasks.items ≡ left_over rest + left_over a.added = ap left_over (a.is ∙ ap (λ zs. zs ++ a.added) g) ∙ left_joined rest a.added in
-    let before : left_over old ≡ left_over rest + (size_of_part (part_of task.part) + 0) = ap left_over e ∙ left_joined rest (task ∷ []) in
-    let added = left_total v.nodes.items (length w.nodes.items) a.added (inside d.scope d.part) a.fit in
-    let less = smaller d.scope d.part in
-    let same = ap size_of_part p.fits.part in
-    omega (arith, new, before, added, less, same)
-
-pub falls : (m : Module) (f : Function) (w v : Walk) (old rest : List Task) (task : Task) (best : Option CheckFault) → old ≡ rest ++ task ∷ [] → w.tasks.items ≡ rest
-    → ((d : Spot) → Fits w.nodes.items task d → Adds w v (inside d.scope d.part)) → Looked m f w.nodes.items old best → left_over v.tasks.items < left_over old
-falls m f w v old rest task best e g adds l = falls_by w v old rest task l.spots e g adds l.fit
+    let before : left_over old ≡ left_over rest + (share task.whole (part_of task.part) + 0) = ap left_over e ∙ left_joined rest (task ∷ []) in
+    let added = left_total v.nodes.items (length w.nodes.items) a.added a.looks a.fit in
+    let all = shares_total (left_in task.whole d) a.looks a.covers in
+    let less = left_less task.whole d in
+    let same = ap (share task.whole) p.fits.part in
+    omega (arith, new, before, added, all, less, same)

@@ -8,16 +8,18 @@ use Rattle.std.proofs.lemmas.Slice.Eq.{bytes_eq-Decides}
 use Rattle.erl_syntax.specs.Bindings.{Bound, names}
 use Rattle.erl_syntax.specs.Scopes.{Scope, AnExpr, APattern, Found, IsKnown, behind, to_generate, IsSizeScope}
 use Rattle.erl_syntax.specs.declared.span.Span.{Span}
-use Rattle.erl_syntax.specs.declared.expr.Expr.{Expr, out-roll-Expr}
+use Rattle.erl_syntax.specs.declared.expr.Expr.{Expr, out-Expr, roll-Expr, out-roll-Expr, roll-out-Expr}
 use Rattle.erl_syntax.specs.declared.expr.Expr.TheVariants as x
 use Rattle.erl_syntax.specs.declared.expr.Expr.TheOpen as O
 use Rattle.erl_syntax.specs.declared.expr.Op.{Op}
 use Rattle.erl_syntax.specs.declared.expr.Prefix.{Prefix}
-use Rattle.erl_syntax.specs.declared.pattern.Pattern.{Pattern, out-roll-Pattern}
+use Rattle.erl_syntax.specs.declared.pattern.Pattern.{Pattern, out-Pattern, roll-Pattern, out-roll-Pattern, roll-out-Pattern}
 use Rattle.erl_syntax.specs.declared.pattern.Pattern.TheVariants as p
 use Rattle.erl_syntax.specs.declared.segment.Segment.{Segment}
 use Rattle.erl_syntax.specs.declared.qual.Qual.{Qual, out-roll-Qual}
 use Rattle.erl_syntax.specs.declared.qual.Qual.TheVariants as q
+use Rattle.erl_syntax.specs.declared.clause.Guard.{Guard}
+use Rattle.erl_syntax.specs.declared.clause.Item.{Item}
 use Rattle.erl_syntax.specs.declared.clause.Alt.{Alt}
 use Rattle.erl_syntax.specs.declared.clause.Branch.{Branch}
 use Rattle.erl_syntax.specs.declared.typing.SideUse.TheVariants as side
@@ -72,6 +74,52 @@ module _ (s : Scope) (pt : Pattern) (at : Span) where
 
   pub in_same : (ps : List Pattern) → pt ≡ p.Same at ps → inside_pattern s pt ≡ patterns_in s ps
   in_same ps h = ap (inside_pattern s) (h ∙ sym (p.rolls-Same at ps)) ∙ ap (pattern_layer_in s) (out-roll-Pattern (O.Same at ps))
+
+-- where it has none of these forms, nothing stands inside it
+module _ (s : Scope) (e : Expr)
+    (not_Tuple : (at : Span) (ys : List Expr) → e ≡ x.Tuple at ys → ⊥)
+    (not_List : (at : Span) (ys tail : List Expr) → e ≡ x.List at ys tail → ⊥)
+    (not_Bits : (at : Span) (sgs : List Segment) → e ≡ x.Bits at sgs → ⊥)
+    (not_ListFor : (at : Span) (ys : List Expr) (gs : List Qual) → e ≡ x.ListFor at ys gs → ⊥)
+    (not_BitsFor : (at : Span) (ys : List Expr) (gs : List Qual) → e ≡ x.BitsFor at ys gs → ⊥)
+    (not_Call : (at : Span) (home : List Expr) (n : ℕ) (ys : List Expr) → e ≡ x.Call at home n ys → ⊥)
+    (not_Case : (at : Span) (ys : List Expr) (alts : List Alt) → e ≡ x.Case at ys alts → ⊥)
+    (not_Receive : (at : Span) (alts : List Alt) → e ≡ x.Receive at alts → ⊥)
+    (not_If : (at : Span) (bs : List Branch) → e ≡ x.If at bs → ⊥)
+    (not_Unary : (at : Span) (op : Prefix) (ys : List Expr) → e ≡ x.Unary at op ys → ⊥)
+    (not_Binary : (at : Span) (op : Op) (ys : List Expr) → e ≡ x.Binary at op ys → ⊥) where
+  plain_expr_by : (v : O.Expr-F Expr Pattern Qual Alt Branch Guard Item Segment) → e ≡ roll-Expr v → expr_layer_in s v ≡ []
+  plain_expr_by (O.Expr::Tuple at ys) h = absurd (not_Tuple at ys (h ∙ x.rolls-Tuple at ys))
+  plain_expr_by (O.Expr::List at ys tail) h = absurd (not_List at ys tail (h ∙ x.rolls-List at ys tail))
+  plain_expr_by (O.Expr::Bits at sgs) h = absurd (not_Bits at sgs (h ∙ x.rolls-Bits at sgs))
+  plain_expr_by (O.ListFor at ys gs) h = absurd (not_ListFor at ys gs (h ∙ x.rolls-ListFor at ys gs))
+  plain_expr_by (O.BitsFor at ys gs) h = absurd (not_BitsFor at ys gs (h ∙ x.rolls-BitsFor at ys gs))
+  plain_expr_by (O.Call at home n ys) h = absurd (not_Call at home n ys (h ∙ x.rolls-Call at home n ys))
+  plain_expr_by (O.Case at ys alts) h = absurd (not_Case at ys alts (h ∙ x.rolls-Case at ys alts))
+  plain_expr_by (O.Receive at alts) h = absurd (not_Receive at alts (h ∙ x.rolls-Receive at alts))
+  plain_expr_by (O.If at bs) h = absurd (not_If at bs (h ∙ x.rolls-If at bs))
+  plain_expr_by (O.Unary at op ys) h = absurd (not_Unary at op ys (h ∙ x.rolls-Unary at op ys))
+  plain_expr_by (O.Binary at op ys) h = absurd (not_Binary at op ys (h ∙ x.rolls-Binary at op ys))
+  plain_expr_by _ h = refl
+
+  pub plain_expr : inside_expr s e ≡ []
+  plain_expr = plain_expr_by (out-Expr e) (sym (roll-out-Expr e))
+
+-- where it has none of these forms, nothing stands inside it
+module _ (s : Scope) (pt : Pattern)
+    (not_Tuple : (at : Span) (ps : List Pattern) → pt ≡ p.Tuple at ps → ⊥)
+    (not_List : (at : Span) (ps tail : List Pattern) → pt ≡ p.List at ps tail → ⊥)
+    (not_Bits : (at : Span) (sgs : List Segment) → pt ≡ p.Bits at sgs → ⊥)
+    (not_Same : (at : Span) (ps : List Pattern) → pt ≡ p.Same at ps → ⊥) where
+  plain_pattern_by : (v : O.Pattern-F Expr Pattern Qual Alt Branch Guard Item Segment) → pt ≡ roll-Pattern v → pattern_layer_in s v ≡ []
+  plain_pattern_by (O.Pattern::Tuple at ps) h = absurd (not_Tuple at ps (h ∙ p.rolls-Tuple at ps))
+  plain_pattern_by (O.Pattern::List at ps tail) h = absurd (not_List at ps tail (h ∙ p.rolls-List at ps tail))
+  plain_pattern_by (O.Pattern::Bits at sgs) h = absurd (not_Bits at sgs (h ∙ p.rolls-Bits at sgs))
+  plain_pattern_by (O.Same at ps) h = absurd (not_Same at ps (h ∙ p.rolls-Same at ps))
+  plain_pattern_by _ h = refl
+
+  pub plain_pattern : inside_pattern s pt ≡ []
+  plain_pattern = plain_pattern_by (out-Pattern pt) (sym (roll-out-Pattern pt))
 
 -- by the form of a qualifier
 module _ (s : Scope) (g : Qual) (at : Span) where

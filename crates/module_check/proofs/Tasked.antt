@@ -1,5 +1,5 @@
 -- Tasks that stand for spots.
-use Rattle.std.proofs.Common.{◌≡◌, ℕ, suc, zero, ◌+◌, ◌<◌, ◌≤◌, true, List, [], ◌∷◌, ◌++◌, length, map, reverse, refl, sym, ◌∙◌, ap, subst, arith}
+use Rattle.std.proofs.Common.{◌≡◌, ℕ, suc, zero, ◌+◌, ◌<◌, ◌≤◌, true, false, List, [], ◌∷◌, ◌++◌, length, map, reverse, refl, sym, ◌∙◌, ap, subst, arith}
 use Rattle.std.proofs.lemmas.List.{append-nil, append_assoc, reverse-append, map-append}
 use Rattle.erl_syntax.specs.Bindings.{Bound, targets, targets_of}
 use Rattle.erl_syntax.specs.Scopes.{Scope, Part, AnExpr, APattern, ABody, ASegment, with_known, behind, in_guard, to_match, past_patterns, past_items}
@@ -7,7 +7,7 @@ use Rattle.erl_syntax.specs.declared.expr.Expr.{Expr}
 use Rattle.erl_syntax.specs.declared.pattern.Pattern.{Pattern}
 use Rattle.erl_syntax.specs.declared.clause.Item.{Item}
 use Rattle.erl_syntax.specs.declared.typing.SideUse.TheVariants as side
-use Rattle.module_check.specs.Spots.{Spot, each, size_scope}
+use Rattle.module_check.specs.Spots.{Spot, each, size_scope, inside}
 use Rattle.std.proofs.Common.{get_or, take, drop, min}
 use Rattle.std.proofs.lemmas.List.{take_more, take_all, drop_more, take-append-le, take-append-drop, length-append, length-take}
 use Rattle.std.proofs.lemmas.Grind.{flat_map-append}
@@ -18,7 +18,7 @@ use Rattle.module_check.specs.declared.tasks.Setting.{Setting}
 use Rattle.module_check.specs.declared.tasks.Task.{Task}
 use Rattle.module_check.specs.declared.tasks.Walk.{Walk}
 use Rattle.module_check.specs.Nodes.{Sees, SeesUnsafe, Grown}
-use Rattle.module_check.specs.Tasks.{Means, SeesSizes, Fits, Marked, AllFit, Adds}
+use Rattle.module_check.specs.Tasks.{Means, SeesSizes, Fits, Look, Covers, no_spots, as_whole, by_itself, Marked, AllFit, Adds, AddsAlone}
 use Rattle.module_check.proofs.Chained.{grown_same, grown_twice, sees_grown, unsafe_grown}
 
 drop_all : {X : Type 0} (xs : List X) (i : ℕ) → length xs ≤ i → drop i xs ≡ []
@@ -50,39 +50,39 @@ length_grown old new g = let P : List Node → Type 0 = λ zs. length old ≤ le
 pub front_grown : (nodes : List Node) (m : ℕ) → Grown (take m nodes) nodes
 front_grown nodes m = record { more = drop m nodes; is = sym (take-append-drop m nodes) }
 
-marked_grown : (old new : List Node) (least : ℕ) (t : Task) (d : Spot) → Grown old new → Marked old least t d → Marked new least t d
-marked_grown old new least t d g h =
-    let P : List Node → Type 0 = λ zs. Fits zs t d in
+marked_grown : (old new : List Node) (least : ℕ) (t : Task) (l : Look) → Grown old new → Marked old least t l → Marked new least t l
+marked_grown old new least t l g h =
+    let P : List Node → Type 0 = λ zs. Fits zs t l.spot in
     let size = length_grown old new g in
     let low = h.within in
-    record { rises = h.rises; within = omega (arith, size, low); fits = subst P (take_grown old new g t.mark h.within) h.fits }
+    record { rises = h.rises; within = omega (arith, size, low); fits = subst P (take_grown old new g t.mark h.within) h.fits; whole = h.whole }
 
-all_least : (nodes : List Node) (least from : ℕ) (ts : List Task) (ds : List Spot) → least ≤ from → AllFit nodes from ts ds → AllFit nodes least ts ds
+all_least : (nodes : List Node) (least from : ℕ) (ts : List Task) (ls : List Look) → least ≤ from → AllFit nodes from ts ls → AllFit nodes least ts ls
 all_least nodes least from [] [] l h = tt
 all_least nodes least from [] (d ∷ ds) l h = h
 all_least nodes least from (t ∷ ts) [] l h = h
-all_least nodes least from (t ∷ ts) (d ∷ ds) l h = (let low = h.0.rises in (record { rises = omega (arith, low, l); within = h.0.within; fits = h.0.fits }, h.1))
+all_least nodes least from (t ∷ ts) (d ∷ ds) l h = (let low = h.0.rises in (record { rises = omega (arith, low, l); within = h.0.within; fits = h.0.fits; whole = h.0.whole }, h.1))
 
-pub all_from_none : (nodes : List Node) (from : ℕ) (ts : List Task) (ds : List Spot) → AllFit nodes from ts ds → AllFit nodes 0 ts ds
-all_from_none nodes from ts ds h = all_least nodes 0 from ts ds (omega arith) h
+pub all_from_none : (nodes : List Node) (from : ℕ) (ts : List Task) (ls : List Look) → AllFit nodes from ts ls → AllFit nodes 0 ts ls
+all_from_none nodes from ts ls h = all_least nodes 0 from ts ls (omega arith) h
 
 -- tasks behind those that stood there before
-pub all_joined : (old new : List Node) (least : ℕ) (ts us : List Task) (ds es : List Spot) → Grown old new → least ≤ length old → AllFit old least ts ds → AllFit new (length old) us es → AllFit new least (ts ++ us) (ds ++ es)
+pub all_joined : (old new : List Node) (least : ℕ) (ts us : List Task) (ds es : List Look) → Grown old new → least ≤ length old → AllFit old least ts ds → AllFit new (length old) us es → AllFit new least (ts ++ us) (ds ++ es)
 all_joined old new least [] us [] es g l h k = all_least new least (length old) us es l k
 all_joined old new least [] us (d ∷ ds) es g l h k = absurd h
 all_joined old new least (t ∷ ts) us [] es g l h k = absurd h
 all_joined old new least (t ∷ ts) us (d ∷ ds) es g l h k = (marked_grown old new least t d g h.0, all_joined old new t.mark ts us ds es g h.0.within h.1 k)
 
-marked_cut : (nodes : List Node) (m least : ℕ) (t : Task) (d : Spot) → t.mark ≤ m → Marked nodes least t d → Marked (take m nodes) least t d
+marked_cut : (nodes : List Node) (m least : ℕ) (t : Task) (d : Look) → t.mark ≤ m → Marked nodes least t d → Marked (take m nodes) least t d
 marked_cut nodes m least t d l h =
     let low = h.within in
     let size : length (take m nodes) ≡ min m (length nodes) = length-take m nodes in
-    let inside : t.mark ≤ length (take m nodes) = omega (arith, l, low, size) in
-    let P : List Node → Type 0 = λ zs. Fits zs t d in
-    record { rises = h.rises; within = inside; fits = subst P (sym (take_grown (take m nodes) nodes (front_grown nodes m) t.mark inside)) h.fits }
+    let held : t.mark ≤ length (take m nodes) = omega (arith, l, low, size) in
+    let P : List Node → Type 0 = λ zs. Fits zs t d.spot in
+    record { rises = h.rises; within = held; fits = subst P (sym (take_grown (take m nodes) nodes (front_grown nodes m) t.mark held)) h.fits; whole = h.whole }
 
 -- no task needs the nodes above the mark of the last
-pub all_cut : (nodes : List Node) (least : ℕ) (ts : List Task) (task : Task) (ds : List Spot) → AllFit nodes least (ts ++ task ∷ []) ds → AllFit (take task.mark nodes) least (ts ++ task ∷ []) ds × (least ≤ task.mark)
+pub all_cut : (nodes : List Node) (least : ℕ) (ts : List Task) (task : Task) (ds : List Look) → AllFit nodes least (ts ++ task ∷ []) ds → AllFit (take task.mark nodes) least (ts ++ task ∷ []) ds × (least ≤ task.mark)
 all_cut nodes least [] task [] h = absurd h
 all_cut nodes least [] task (d ∷ []) h = ((marked_cut nodes task.mark least task d (omega arith) h.0, tt), h.0.rises)
 all_cut nodes least [] task (d ∷ e ∷ ds) h = absurd h.1
@@ -93,15 +93,24 @@ all_cut nodes least (t ∷ ts) task (d ∷ ds) h =
     let high = r.1 in
     ((marked_cut nodes task.mark least t d r.1 h.0, r.0), omega (arith, low, high))
 
+covers_joined : (ds es : List Spot) (ls ms : List Look) → Covers ds ls → Covers es ms → Covers (ds ++ es) (ls ++ ms)
+covers_joined _ es _ ms no_spots k = k
+covers_joined _ es _ ms (as_whole d ds ls h) k = as_whole d (ds ++ es) (ls ++ ms) (covers_joined ds es ls ms h k)
+covers_joined _ es _ ms (by_itself d ds within ls i h) k =
+    let P : List Look → Type 0 = λ zs. Covers (d ∷ (ds ++ es)) (record { spot = d; whole = false } ∷ zs) in
+    subst P (sym (append_assoc within ls ms)) (by_itself d (ds ++ es) within (ls ++ ms) i (covers_joined ds es ls ms h k))
+
 pub adds_none : (w : Walk) → Adds w w []
-adds_none w = record { grown = grown_same w.nodes.items; added = []; is = sym (append-nil w.tasks.items); fit = tt }
+adds_none w = record { grown = grown_same w.nodes.items; added = []; looks = []; is = sym (append-nil w.tasks.items); fit = tt; covers = no_spots }
 
 pub adds_twice : (w v u : Walk) (ds es : List Spot) → Adds w v ds → Adds v u es → Adds w u (ds ++ es)
 adds_twice w v u ds es a b = record {
   grown = grown_twice w.nodes.items v.nodes.items u.nodes.items a.grown b.grown;
   added = a.added ++ b.added;
+  looks = a.looks ++ b.looks;
   is = b.is ∙ ap (λ zs. zs ++ b.added) a.is ∙ append_assoc w.tasks.items a.added b.added;
-  fit = all_joined v.nodes.items u.nodes.items (length w.nodes.items) a.added b.added ds es b.grown (length_grown w.nodes.items v.nodes.items a.grown) a.fit b.fit;
+  fit = all_joined v.nodes.items u.nodes.items (length w.nodes.items) a.added b.added a.looks b.looks b.grown (length_grown w.nodes.items v.nodes.items a.grown) a.fit b.fit;
+  covers = covers_joined ds es a.looks b.looks a.covers b.covers;
 }
 
 pub adds_then : (w v u : Walk) (ds : List Spot) → Adds w v ds → Adds v u [] → Adds w u ds
@@ -110,17 +119,39 @@ adds_then w v u ds a b = let P : List Spot → Type 0 = λ zs. Adds w u zs in su
 pub adds_same : (w v : Walk) (ds es : List Spot) → ds ≡ es → Adds w v ds → Adds w v es
 adds_same w v ds es e h = let P : List Spot → Type 0 = λ zs. Adds w v zs in subst P e h
 
-pub adds_one : (w v : Walk) (t : Task) (d : Spot) → t.mark ≡ length w.nodes.items → v.nodes.items ≡ w.nodes.items → v.tasks.items ≡ w.tasks.items ++ t ∷ [] → Fits w.nodes.items t d → Adds w v (d ∷ [])
-adds_one w v t d m e h f =
-    let g : Grown w.nodes.items v.nodes.items = record { more = []; is = e ∙ sym (append-nil w.nodes.items) } in
-    let P : List Node → Type 0 = λ zs. Fits zs t d in
+one_fits : (w v : Walk) (t : Task) (l : Look) → t.mark ≡ length w.nodes.items → v.nodes.items ≡ w.nodes.items → Fits w.nodes.items t l.spot → t.whole ≡ l.whole → AllFit v.nodes.items (length w.nodes.items) (t ∷ []) (l ∷ [])
+one_fits w v t l m e f h =
+    let P : List Node → Type 0 = λ zs. Fits zs t l.spot in
     let size = ap length e in
     let all : take t.mark v.nodes.items ≡ w.nodes.items = ap (λ zs. take t.mark zs) e ∙ take_all t.mark w.nodes.items (omega (arith, m)) in
-    record { grown = g; added = t ∷ []; is = h; fit = (record { rises = omega (arith, m); within = omega (arith, m, size); fits = subst P (sym all) f }, tt) }
+    (record { rises = omega (arith, m); within = omega (arith, m, size); fits = subst P (sym all) f; whole = h }, tt)
+
+no_nodes : (w v : Walk) → v.nodes.items ≡ w.nodes.items → Grown w.nodes.items v.nodes.items
+no_nodes w v e = record { more = []; is = e ∙ sym (append-nil w.nodes.items) }
+
+pub adds_one : (w v : Walk) (t : Task) (d : Spot) → t.mark ≡ length w.nodes.items → v.nodes.items ≡ w.nodes.items → v.tasks.items ≡ w.tasks.items ++ t ∷ [] → t.whole ≡ true → Fits w.nodes.items t d → Adds w v (d ∷ [])
+adds_one w v t d m e h z f = record { grown = no_nodes w v e; added = t ∷ []; looks = record { spot = d; whole = true } ∷ []; is = h; fit = one_fits w v t (record { spot = d; whole = true }) m e f z; covers = as_whole d [] [] no_spots }
+
+pub adds_alone : (w v : Walk) (t : Task) (d : Spot) → t.mark ≡ length w.nodes.items → v.nodes.items ≡ w.nodes.items → v.tasks.items ≡ w.tasks.items ++ t ∷ [] → t.whole ≡ false → Fits w.nodes.items t d → AddsAlone w v d
+adds_alone w v t d m e h z f = record { grown = no_nodes w v e; task = t; is = h; fit = one_fits w v t (record { spot = d; whole = false }) m e f z }
+
+-- a spot by itself, and then what stands inside it
+pub adds_inside : (w v u : Walk) (d : Spot) → AddsAlone w v d → Adds v u (inside d.scope d.part) → Adds w u (d ∷ [])
+adds_inside w v u d a b =
+    let one : Look = record { spot = d; whole = false } in
+    let P : List Look → Type 0 = λ zs. Covers (d ∷ []) (one ∷ zs) in
+    record {
+      grown = grown_twice w.nodes.items v.nodes.items u.nodes.items a.grown b.grown;
+      added = a.task ∷ b.added;
+      looks = one ∷ b.looks;
+      is = b.is ∙ ap (λ zs. zs ++ b.added) a.is ∙ append_assoc w.tasks.items (a.task ∷ []) b.added;
+      fit = all_joined v.nodes.items u.nodes.items (length w.nodes.items) (a.task ∷ []) b.added (one ∷ []) b.looks b.grown (length_grown w.nodes.items v.nodes.items a.grown) a.fit b.fit;
+      covers = subst P (append-nil b.looks) (by_itself d [] b.looks [] b.covers no_spots);
+    }
 
 -- only nodes are added
 pub adds_nodes : (w v : Walk) → Grown w.nodes.items v.nodes.items → v.tasks.items ≡ w.tasks.items → Adds w v []
-adds_nodes w v g e = record { grown = g; added = []; is = e ∙ sym (append-nil w.tasks.items); fit = tt }
+adds_nodes w v g e = record { grown = g; added = []; looks = []; is = e ∙ sym (append-nil w.tasks.items); fit = tt; covers = no_spots }
 
 -- a loop over a list that adds what each element adds
 pub record Far {X : Type 0} (w v : Walk) (At : List X → X → List X → List Spot) (front passed left all : List X) : Type 0 where
@@ -210,6 +241,9 @@ means_guard nodes t s h = record { known = h.known; dangers = h.dangers; guarded
 
 pub means_match : (nodes : List Node) (t : Setting) (s : Scope) → Means nodes t s → Means nodes (record t { sizes = t.known }) (to_match s)
 means_match nodes t s h = record { known = h.known; dangers = h.dangers; guarded = h.guarded }
+
+pub unmatched : (nodes : List Node) (t : Setting) (s : Scope) (bs : List Bound) → Means nodes t (with_known bs (to_match s)) → Means nodes t (with_known bs s)
+unmatched nodes t s bs h = record { known = h.known; dangers = h.dangers; guarded = h.guarded }
 
 pub rev_left : {X : Type 0} (xs : List X) (i j : ℕ) (one : X) → j ≡ i + 1 → i < length xs → one ≡ get_or xs i one → reverse (take j xs) ≡ one ∷ reverse (take i xs)
 rev_left xs i j one k l e = ap (λ n. reverse (take n xs)) k ∙ ap reverse (take_more xs i one l ∙ ap (λ z. take i xs ++ z ∷ []) (sym e)) ∙ reverse-append (take i xs) (one ∷ [])

@@ -1,5 +1,5 @@
 -- What is left to look at: parts with what is known where they stand.
-use Rattle.std.specs.Prelude.{◌≡◌, ◌≤◌, ℕ, List, [], ◌∷◌, ◌++◌, length, take, Option, Some, None}
+use Rattle.std.specs.Prelude.{◌≡◌, ◌≤◌, ℕ, Bool, true, false, List, [], ◌∷◌, ◌++◌, length, take, Option, Some, None}
 use Rattle.erl_syntax.specs.Bindings.{Bound, new_names}
 use Rattle.erl_syntax.specs.declared.expr.Expr.{Expr}
 use Rattle.erl_syntax.specs.declared.qual.Qual.{Qual}
@@ -13,7 +13,7 @@ use Rattle.module_check.specs.declared.tasks.Setting.{Setting}
 use Rattle.module_check.specs.declared.tasks.Task.{Task}
 use Rattle.module_check.specs.declared.tasks.Walk.{Walk}
 use Rattle.module_check.specs.Nodes.{Sees, SeesUnsafe, Grown}
-use Rattle.module_check.specs.Spots.{Spot, spot, size_scope}
+use Rattle.module_check.specs.Spots.{Spot, spot, size_scope, inside}
 
 abbrev pub part_of : Part → Scopes.Part
 part_of (t.Expr e) = AnExpr e.now
@@ -41,25 +41,51 @@ pub record Fits (nodes : List Node) (task : Task) (d : Spot) : Type 0 where
   pub means : Means nodes task.setting d.scope
   pub sizes : SeesSizes nodes task.setting.sizes d.scope d.part
 
--- the task stands for the spot by the nodes up to its mark, which are at least so many
-pub record Marked (nodes : List Node) (least : ℕ) (task : Task) (d : Spot) : Type 0 where
+-- what a task is to look at: a spot, and whether what stands inside it too
+pub record Look : Type 0 where
+  pub spot : Spot
+  pub whole : Bool
+
+-- what is left to look at inside a spot once it has been looked at itself
+abbrev pub left_in : Bool → Spot → List Spot
+left_in true d = inside d.scope d.part
+left_in false d = []
+
+-- all that stands at the spots and inside them is looked at, each once
+pub data Covers : List Spot → List Look → Type 0 where
+  no_spots : Covers [] []
+  as_whole : (d : Spot) (ds : List Spot) (ls : List Look) → Covers ds ls → Covers (d ∷ ds) (record { spot = d; whole = true } ∷ ls)
+  by_itself : (d : Spot) (ds : List Spot) (within ls : List Look) → Covers (inside d.scope d.part) within → Covers ds ls → Covers (d ∷ ds) (record { spot = d; whole = false } ∷ (within ++ ls))
+
+-- the task stands for the look by the nodes up to its mark, which are at least so many
+pub record Marked (nodes : List Node) (least : ℕ) (task : Task) (l : Look) : Type 0 where
   pub rises : least ≤ task.mark
   pub within : task.mark ≤ length nodes
-  pub fits : Fits (take task.mark nodes) task d
+  pub fits : Fits (take task.mark nodes) task l.spot
+  pub whole : task.whole ≡ l.whole
 
--- each task stands for one of the spots, in order, and their marks rise
-abbrev pub AllFit : List Node → ℕ → List Task → List Spot → Type 0
+-- each task stands for one of the looks, in order, and their marks rise
+abbrev pub AllFit : List Node → ℕ → List Task → List Look → Type 0
 AllFit nodes least [] [] = Unit {0}
-AllFit nodes least [] (d ∷ ds) = ⊥
+AllFit nodes least [] (l ∷ ls) = ⊥
 AllFit nodes least (task ∷ tasks) [] = ⊥
-AllFit nodes least (task ∷ tasks) (d ∷ ds) = Marked nodes least task d × AllFit nodes task.mark tasks ds
+AllFit nodes least (task ∷ tasks) (l ∷ ls) = Marked nodes least task l × AllFit nodes task.mark tasks ls
 
--- tasks that stand for these spots are added behind the others
+-- tasks are added behind the others that cover these spots
 pub record Adds (old new : Walk) (ds : List Spot) : Type 0 where
   pub grown : Grown old.nodes.items new.nodes.items
   pub added : List Task
+  pub looks : List Look
   pub is : new.tasks.items ≡ old.tasks.items ++ added
-  pub fit : AllFit new.nodes.items (length old.nodes.items) added ds
+  pub fit : AllFit new.nodes.items (length old.nodes.items) added looks
+  pub covers : Covers ds looks
+
+-- a task is added for a spot by itself
+pub record AddsAlone (old new : Walk) (d : Spot) : Type 0 where
+  pub grown : Grown old.nodes.items new.nodes.items
+  pub task : Task
+  pub is : new.tasks.items ≡ old.tasks.items ++ task ∷ []
+  pub fit : AllFit new.nodes.items (length old.nodes.items) (task ∷ []) (record { spot = d; whole = false } ∷ [])
 
 -- where these variables of a bit pattern stand further left
 abbrev pub passed : List Bound → Scope → Scope

@@ -1,6 +1,6 @@
 //! What is left to look at: parts of a function with what is known where they stand.
 
-ghost use Rattle.std.specs.Prelude.{◌≡◌, ◌++◌, ◌∷◌, [], Bool, List, IfOk, reverse, length, drop, ◌<◌, ◌+◌};
+ghost use Rattle.std.specs.Prelude.{◌≡◌, ◌++◌, ◌∷◌, [], Bool, true, false, List, IfOk, reverse, length, drop, ◌<◌, ◌+◌};
 ghost use Rattle.erl_syntax.specs.Bindings.{Bound, targets, targets_of};
 ghost use Rattle.erl_syntax.specs.declared.clause.Alt.{out-Alt};
 ghost use Rattle.erl_syntax.specs.declared.clause.Branch.{out-Branch};
@@ -11,7 +11,7 @@ ghost use Rattle.erl_syntax.specs.Scopes.{Scope, AnExpr, APattern, ASegment, beh
 ghost use Rattle.erl_syntax.specs.declared.expr.Expr.{Expr};
 ghost use Rattle.module_check.specs.Nodes.{Sees, bound_of, bounds_of};
 ghost use Rattle.module_check.specs.Spots.{Spot, spot, each, expr_in, same_in, tests_in, guard_in, pattern_in, matched_in, item_in, items_in, built_in_turn, segment_in, alt_layer_in, alt_in, branch_layer_in, branch_in, qual_in, quals_in, comprehension_in, inside_expr, inside_pattern, size_scope, inside_segment, inside, clause_in, clauses_in};
-ghost use Rattle.module_check.specs.Tasks.{Means, SeesSizes, Fits, Adds, Passes, passed, with_new, size_in};
+ghost use Rattle.module_check.specs.Tasks.{part_of, Means, SeesSizes, Fits, left_in, Adds, AddsAlone, Passes, passed, with_new, size_in};
 
 use crate::scopes::{Target, append, append_all, endanger, put_all};
 use crate::targets::{add_new, add_qual_unsafe, add_segment_target, add_targets, add_unsafe};
@@ -47,6 +47,8 @@ pub(crate) struct Task<'a> {
     pub part: Part<'a>,
     /// How many nodes there were when the task was added: it needs none of those that are added later.
     pub mark: usize,
+    /// Whether what stands inside the part is left to look at too: else it has tasks of its own.
+    pub whole: bool,
 }
 
 /// What is left to look at in a function.
@@ -58,8 +60,8 @@ pub(crate) struct Walk<'a> {
 }
 
 impl<'a> Walk<'a> {
-    fn push(&mut self, setting: Setting, part: Part<'a>) -> Result<(), AllocError>
-        ensures { IfOk result (λ u. (d : Spot) → Fits self.old.nodes.items (record { setting = setting; part = part.entry; mark = length self.old.nodes.items }) d → Adds self.old self.new (d ∷ [])) }
+    fn add(&mut self, setting: Setting, part: Part<'a>, whole: bool) -> Result<(), AllocError>
+        ensures { IfOk result (λ u. (self.new.nodes.items ≡ self.old.nodes.items) × (self.new.tasks.items ≡ self.old.tasks.items ++ record { setting = setting; part = part.entry; mark = length self.old.nodes.items; whole = whole } ∷ [])) }
     {
         let mark = self.nodes.len();
         Ok(
@@ -67,8 +69,23 @@ impl<'a> Walk<'a> {
                 setting,
                 part,
                 mark,
+                whole,
             })?,
         )
+    }
+
+    /// Adds a part with all that stands inside it.
+    fn push(&mut self, setting: Setting, part: Part<'a>) -> Result<(), AllocError>
+        ensures { IfOk result (λ u. (d : Spot) → Fits self.old.nodes.items (record { setting = setting; part = part.entry; mark = length self.old.nodes.items; whole = true }) d → Adds self.old self.new (d ∷ [])) }
+    {
+        self.add(setting, part, true)
+    }
+
+    /// Adds a part by itself.
+    fn push_alone(&mut self, setting: Setting, part: Part<'a>) -> Result<(), AllocError>
+        ensures { IfOk result (λ u. (d : Spot) → Fits self.old.nodes.items (record { setting = setting; part = part.entry; mark = length self.old.nodes.items; whole = false }) d → AddsAlone self.old self.new d) }
+    {
+        self.add(setting, part, false)
     }
 
     /// The setting behind an expression.
@@ -84,9 +101,7 @@ impl<'a> Walk<'a> {
 
     /// The setting where the variables of a pattern have values too.
     fn know(&mut self, setting: Setting, pattern: &'a Pattern) -> Result<Setting, AllocError>
-        ensures adds { IfOk result (λ after. Adds self.old self.new []) }
-        ensures means { IfOk result (λ after. (s : Scope) → Means self.old.nodes.items setting s → Means self.new.nodes.items after (with_known (targets pattern.now) s)) }
-        ensures sizes { IfOk result (λ after. after.sizes ≡ setting.sizes) }
+        ensures { IfOk result (λ after. (s : Scope) → Means self.old.nodes.items setting s → Adds self.old self.new [] × (Means self.new.nodes.items after (with_known (targets pattern.now) s) × (after.sizes ≡ setting.sizes))) }
     {
         let mut found = Vec::new(self.alloc);
         add_targets(&mut found, pattern)?;
@@ -131,22 +146,6 @@ impl<'a> Walk<'a> {
         Ok(())
     }
 
-    /// Patterns one behind another, and the setting behind them.
-    fn push_patterns(
-        &mut self,
-        setting: Setting,
-        patterns: &'a [Pattern],
-    ) -> Result<Setting, AllocError>
-        ensures { IfOk result (λ after. (s : Scope) (front : List Pattern) → Means self.old.nodes.items setting (past_patterns front s) → Sees self.old.nodes.items setting.sizes s.outer → Adds self.old self.new (each (pattern_in s) front patterns.now) × (Means self.new.nodes.items after (past_patterns (front ++ patterns.now) s) × (after.sizes ≡ setting.sizes))) }
-    {
-        let mut after = setting;
-        for pattern in patterns {
-            self.push(after, Part::Pattern(pattern))?;
-            after = self.know(after, pattern)?;
-        }
-        Ok(after)
-    }
-
     /// The patterns of an item, the last first, and the setting behind them.
     fn push_matched(
         &mut self,
@@ -164,8 +163,7 @@ impl<'a> Walk<'a> {
                 sizes: after.known,
                 ..after
             };
-            self.push(matched, Part::Pattern(pattern))?;
-            after = self.know(after, pattern)?;
+            after = self.push_pattern(matched, pattern)?;
         }
         Ok(after)
     }
@@ -295,8 +293,7 @@ impl<'a> Walk<'a> {
             sizes: setting.known,
             ..setting
         };
-        self.push(matched, Part::Pattern(&alt.pattern))?;
-        let known = self.know(setting, &alt.pattern)?;
+        let known = self.push_pattern(matched, &alt.pattern)?;
         self.push_guard(known, &alt.guard)?;
         let body = alt.body.items();
         self.push(known, Part::Body(body))
@@ -344,7 +341,8 @@ impl<'a> Walk<'a> {
             ..setting
         };
         self.push(setting, Part::Expr(source))?;
-        self.push(generated, Part::Pattern(pattern))
+        self.push_pattern(generated, pattern)?;
+        Ok(())
     }
 
     /// A generator over bits.
@@ -501,29 +499,57 @@ impl<'a> Walk<'a> {
         Ok(())
     }
 
-    /// What stands inside a pattern.
-    fn push_pattern(&mut self, setting: Setting, pattern: &'a Pattern) -> Result<(), AllocError>
-        ensures { IfOk result (λ u. (s : Scope) → Means self.old.nodes.items setting s → Sees self.old.nodes.items setting.sizes s.outer → Adds self.old self.new (inside_pattern s pattern.now)) }
+    /// A pattern, and the setting behind it.
+    #[cycle(pattern)]
+    fn push_pattern(
+        &mut self,
+        setting: Setting,
+        pattern: &'a Pattern,
+    ) -> Result<Setting, AllocError>
+        ensures { IfOk result (λ after. (s : Scope) → Means self.old.nodes.items setting s → Sees self.old.nodes.items setting.sizes s.outer → Adds self.old self.new (spot s (APattern pattern.now) ∷ []) × (Means self.new.nodes.items after (with_known (targets pattern.now) s) × (after.sizes ≡ setting.sizes))) }
+    {
+        self.push_alone(setting, Part::Pattern(pattern))?;
+        self.push_in_pattern(setting, pattern)
+    }
+
+    /// What stands inside a pattern, and the setting behind it.
+    #[cycle(pattern)]
+    fn push_in_pattern(
+        &mut self,
+        setting: Setting,
+        pattern: &'a Pattern,
+    ) -> Result<Setting, AllocError>
+        ensures { IfOk result (λ after. (s : Scope) → Means self.old.nodes.items setting s → Sees self.old.nodes.items setting.sizes s.outer → Adds self.old self.new (inside_pattern s pattern.now) × (Means self.new.nodes.items after (with_known (targets pattern.now) s) × (after.sizes ≡ setting.sizes))) }
     {
         match pattern {
-            Pattern::Tuple { items, .. } => self.push_nested(setting, items.items()),
+            Pattern::Tuple { items, .. } => self.push_patterns(setting, items.items()),
             Pattern::List { items, tail, .. } => {
                 let behind = self.push_patterns(setting, items.items())?;
-                self.push_nested(behind, tail.items())
+                self.push_patterns(behind, tail.items())
             }
             Pattern::Bits { segments, .. } => {
-                self.push_segments(SideUse::Match, setting, segments.items())
+                self.push_segments(SideUse::Match, setting, segments.items())?;
+                self.know(setting, pattern)
             }
-            Pattern::Same { patterns, .. } => self.push_nested(setting, patterns.items()),
-            _ => Ok(()),
+            Pattern::Same { patterns, .. } => self.push_patterns(setting, patterns.items()),
+            _ => self.know(setting, pattern),
         }
     }
 
-    fn push_nested(&mut self, setting: Setting, patterns: &'a [Pattern]) -> Result<(), AllocError>
-        ensures { IfOk result (λ u. (s : Scope) (front : List Pattern) → Means self.old.nodes.items setting (past_patterns front s) → Sees self.old.nodes.items setting.sizes s.outer → Adds self.old self.new (each (pattern_in s) front patterns.now)) }
+    /// Patterns one behind another, and the setting behind them.
+    #[cycle(pattern)]
+    fn push_patterns(
+        &mut self,
+        setting: Setting,
+        patterns: &'a [Pattern],
+    ) -> Result<Setting, AllocError>
+        ensures { IfOk result (λ after. (s : Scope) (front : List Pattern) → Means self.old.nodes.items setting (past_patterns front s) → Sees self.old.nodes.items setting.sizes s.outer → Adds self.old self.new (each (pattern_in s) front patterns.now) × (Means self.new.nodes.items after (past_patterns (front ++ patterns.now) s) × (after.sizes ≡ setting.sizes))) }
     {
-        self.push_patterns(setting, patterns)?;
-        Ok(())
+        let mut after = setting;
+        for pattern in patterns {
+            after = self.push_pattern(after, pattern)?;
+        }
+        Ok(after)
     }
 
     /// What stands inside a segment of a bit expression.
@@ -573,16 +599,29 @@ impl<'a> Walk<'a> {
         }
     }
 
-    /// What stands right inside the part of a task.
-    pub fn push_inside(&mut self, task: Task<'a>) -> Result<(), AllocError>
-        ensures { IfOk result (λ u. (d : Spot) → Fits self.old.nodes.items task.entry d → Adds self.old self.new (inside d.scope d.part)) }
+    /// What stands right inside a part.
+    fn push_in_part(&mut self, setting: Setting, part: Part<'a>) -> Result<(), AllocError>
+        ensures { IfOk result (λ u. (s : Scope) → Means self.old.nodes.items setting s → SeesSizes self.old.nodes.items setting.sizes s (part_of part.entry) → Adds self.old self.new (inside s (part_of part.entry))) }
     {
-        let setting = task.setting;
-        match task.part {
+        match part {
             Part::Expr(expr) => self.push_expr(setting, expr),
-            Part::Pattern(pattern) => self.push_pattern(setting, pattern),
+            Part::Pattern(pattern) => {
+                self.push_in_pattern(setting, pattern)?;
+                Ok(())
+            }
             Part::Body(items) => self.push_items(setting, items),
             Part::Segment(side, _, segment) => self.push_segment(setting, side, segment),
+        }
+    }
+
+    /// What is left to look at inside the part of a task.
+    pub fn push_inside(&mut self, task: Task<'a>) -> Result<(), AllocError>
+        ensures { IfOk result (λ u. (d : Spot) → Fits self.old.nodes.items task.entry d → Adds self.old self.new (left_in task.entry.whole d)) }
+    {
+        if task.whole {
+            self.push_in_part(task.setting, task.part)
+        } else {
+            Ok(())
         }
     }
 

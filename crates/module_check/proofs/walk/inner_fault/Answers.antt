@@ -21,7 +21,7 @@ pub loop-task-smaller : goal.loop-task-smaller
 loop-task-smaller c =
     let w : Walk = record c.loop-task.walk { tasks = c.pop.new.self; nodes = c.truncate.new.self } in
     let l = looked_cut c.args.tree.now c.args.function.now c.loop-task.walk.nodes.items c.truncate.new.self.items c.loop-task.walk.tasks.items c.pop.new.self.items c.in-Some.task c.loop-task.best c.in-Some.ensures.items c.truncate.ensures.items c.loop-task.invariant in
-    falls c.args.tree.now c.args.function.now w c.push_inside.new.self c.loop-task.walk.tasks.items c.pop.new.self.items c.in-Some.task c.loop-task.best c.in-Some.ensures.items refl c.in_ok-push_inside.ensures l
+    falls w c.push_inside.new.self c.loop-task.walk.tasks.items c.pop.new.self.items c.in-Some.task l.walked.looks c.in-Some.ensures.items refl c.in_ok-push_inside.ensures l.walked.fit
 
 pub returns : goal.returns
 returns c = finish c.args.tree.now c.args.function.now _ _ c.loop-task.best (none_at_all c.loop-task.walk.tasks.items (omega (arith, c.in_default.ensures.cases.0, c.loop-task.walk.tasks.ok.0))) c.loop-task.invariant

@@ -2,8 +2,8 @@ use Rattle.std.proofs.Common.{sym, ◌∙◌, refl, [], ◌++◌, ap}
 use Rattle.std.proofs.lemmas.Result.{IfOk-weaker}
 use Rattle.erl_syntax.specs.Scopes.{behind}
 use Rattle.module_check.specs.Spots.{each, expr_in, built_in_turn, alt_in, branch_in, comprehension_in}
-use Rattle.module_check.proofs.Standing.{in_tuple, in_list, in_bits, in_list_for, in_bits_for, in_call, in_case, in_receive, in_if, in_unary, in_binary}
-use Rattle.module_check.proofs.Tasked.{adds_twice, adds_same, means_same}
+use Rattle.module_check.proofs.Standing.{in_tuple, in_list, in_bits, in_list_for, in_bits_for, in_call, in_case, in_receive, in_if, in_unary, in_binary, plain_expr}
+use Rattle.module_check.proofs.Tasked.{adds_none, adds_twice, adds_same, means_same}
 use Rattle.module_check.proofs.Passing.{behind_none, each_joined}
 use Rattle.module_check.proofs.tasks.Walk.push_expr.Goals as goal
 
@@ -50,3 +50,6 @@ returns-in-Unary c = IfOk-weaker c.push_parts-in-Unary.result _ _ (λ u h s m. a
 
 pub returns-in-Binary : goal.returns-in-Binary
 returns-in-Binary c = IfOk-weaker c.push_parts-in-Binary.result _ _ (λ u h s m. adds_same _ _ _ _ (ap (λ zs. each (expr_in s) [] zs) c.items-in-Binary.ensures ∙ sym (in_binary s c.args.expr.now c.in-Binary.at c.in-Binary.op c.in-Binary.parts c.in-Binary.is)) (h s [] (means_same _ _ _ _ (behind_none s) m))) c.push_parts-in-Binary.ensures
+
+pub returns-in_default : goal.returns-in_default
+returns-in_default c = λ s m. let n = c.in_default in adds_same _ _ _ _ (sym (plain_expr s c.args.expr.now n.not-Tuple n.not-List n.not-Bits n.not-ListFor n.not-BitsFor n.not-Call n.not-Case n.not-Receive n.not-If n.not-Unary n.not-Binary)) (adds_none c.args.self.now)
