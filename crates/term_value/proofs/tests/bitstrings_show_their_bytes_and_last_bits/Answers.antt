@@ -1,6 +1,0 @@
-use Rattle.term_value.specs.Terms.{seen}
-use Rattle.term_value.proofs.RowLemmas.{any_known}
-use Rattle.term_value.proofs.tests.bitstrings_show_their_bytes_and_last_bits.Goals as goal
-
-pub show-requires : goal.show-requires
-show-requires g c = any_known (seen _)

@@ -1,6 +1,0 @@
-use Rattle.term_value.specs.Terms.{seen}
-use Rattle.term_value.proofs.RowLemmas.{any_known}
-use Rattle.term_value.proofs.tests.tuples_and_lists_stand_in_each_other.Goals as goal
-
-pub show-requires : goal.show-requires
-show-requires g c = any_known (seen _)
