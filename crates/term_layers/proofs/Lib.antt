@@ -1,4 +1,9 @@
 pub mod InEnvironment
+pub mod KeptBounds
+pub mod KeptMachine
+pub mod KeptMatch
+pub mod KeptPut
+pub mod KeptStep
 pub mod Matches
 pub mod Nothing
 pub mod Readings

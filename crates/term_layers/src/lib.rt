@@ -5,6 +5,7 @@
 mod bindings;
 mod cursors;
 mod environments;
+mod inside;
 mod layers;
 mod scoped;
 
@@ -14,6 +15,7 @@ pub use bindings::{
 };
 pub use cursors::{bit_cursor, enough_looks, list_cursor};
 pub use environments::{chosen_is_picked, gives_alike, opens_alike};
+pub use inside::{bounds_are_kept, orders_keep_bounds, start_is_bounded};
 pub use layers::{
     ask_reached, form_acts, giving_next, next_under, opening_next, runs_under, step_under,
 };
