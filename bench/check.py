@@ -79,6 +79,16 @@ def in_tuples(size):
     return repeated(size, HEAD + "main() -> ok.\nf(" + "{" * TUPLES + "N", lambda n: f", N{n}", "}" * TUPLES + ") -> ok.\n")
 
 
+def in_alternatives(size):
+    """Clauses inside clauses, two by two: each innermost one gives ten names their values, and each level has all those below it."""
+    def clauses(depth, first):
+        if depth == 0:
+            return ", ".join(f"N{first * 10 + n} = {n}" for n in range(10))
+        return f"case 1 of 1 -> {clauses(depth - 1, 2 * first)}; _ -> {clauses(depth - 1, 2 * first + 1)} end"
+
+    return HEAD + "main() -> " + clauses((size // 160).bit_length() - 1, 0) + ".\n"
+
+
 KINDS = {
     "functions that call each other": functions,
     "one list of many expressions": listed,
@@ -90,6 +100,7 @@ KINDS = {
     "names behind nested operators": behind_operators,
     "names inside nested cases": in_cases,
     "names inside nested tuples of a pattern": in_tuples,
+    "names inside nested alternatives": in_alternatives,
 }
 
 

@@ -129,10 +129,10 @@ pub unsafe_grown : (old new : List Node) → Grown old new → (k : ℕ) (ds : L
 unsafe_grown old new g k ds h = record { chain = h.chain; stands = chain_grown old new g k h.chain h.stands; to = h.to; from = h.from }
 
 -- what is unsafe behind a part
-one_danger : (ds : List Danger) (d : Danger) (name : List ℕ) → Contains d.left_unsafe name → (IsKnown d.known name → ⊥) → IsUnsafe (ds ++ d ∷ []) name
+pub one_danger : (ds : List Danger) (d : Danger) (name : List ℕ) → Contains d.left_unsafe name → (IsKnown d.known name → ⊥) → IsUnsafe (ds ++ d ∷ []) name
 one_danger ds d name h k = (d, (Contains-push ds d, (h, k)))
 
-kept_danger : (ds es : List Danger) (name : List ℕ) → IsUnsafe ds name → IsUnsafe (ds ++ es) name
+pub kept_danger : (ds es : List Danger) (name : List ℕ) → IsUnsafe ds name → IsUnsafe (ds ++ es) name
 kept_danger ds es name (d, (h, k)) = (d, (Contains-append_left ds es d h, k))
 
 pub unsafe_split : (ds : List Danger) (d : Danger) (name : List ℕ) → IsUnsafe (ds ++ d ∷ []) name → IsUnsafe ds name ⊎ (Contains d.left_unsafe name × (IsKnown d.known name → ⊥))
@@ -182,22 +182,22 @@ danger_none ds bs =
       from = λ n z. elim (unsafe_split ds d n z) [ inl i ↦ i | inr i ↦ absurd (none_in n i.0) ];
     }
 
-pub danger_more : (ds : List Danger) (bs : List Bound) (ns : List (List ℕ)) (name : List ℕ) → SameDangers ((ds ++ record { left_unsafe = ns; known = bs } ∷ []) ++ record { left_unsafe = name ∷ []; known = bs } ∷ []) (ds ++ record { left_unsafe = ns ++ name ∷ []; known = bs } ∷ [])
-danger_more ds bs ns name =
+pub danger_joined : (ds : List Danger) (bs : List Bound) (ns ms : List (List ℕ)) → SameDangers ((ds ++ record { left_unsafe = ns; known = bs } ∷ []) ++ record { left_unsafe = ms; known = bs } ∷ []) (ds ++ record { left_unsafe = ns ++ ms; known = bs } ∷ [])
+danger_joined ds bs ns ms =
     let a : Danger = record { left_unsafe = ns; known = bs } in
-    let b : Danger = record { left_unsafe = name ∷ []; known = bs } in
-    let d : Danger = record { left_unsafe = ns ++ name ∷ []; known = bs } in
+    let b : Danger = record { left_unsafe = ms; known = bs } in
+    let d : Danger = record { left_unsafe = ns ++ ms; known = bs } in
     record {
       to = λ n z. elim (unsafe_split (ds ++ a ∷ []) b n z) [
         | inl i ↦ elim (unsafe_split ds a n i) [
           | inl j ↦ kept_danger ds (d ∷ []) n j
-          | inr j ↦ one_danger ds d n (Contains-append_left ns (name ∷ []) n j.0) j.1
+          | inr j ↦ one_danger ds d n (Contains-append_left ns ms n j.0) j.1
         ]
-        | inr i ↦ one_danger ds d n (Contains-append_right ns (name ∷ []) n i.0) i.1
+        | inr i ↦ one_danger ds d n (Contains-append_right ns ms n i.0) i.1
       ];
       from = λ n z. elim (unsafe_split ds d n z) [
         | inl i ↦ kept_danger (ds ++ a ∷ []) (b ∷ []) n (kept_danger ds (a ∷ []) n i)
-        | inr i ↦ elim (Contains-append_cases ns (name ∷ []) n i.0) [
+        | inr i ↦ elim (Contains-append_cases ns ms n i.0) [
           | inl j ↦ kept_danger (ds ++ a ∷ []) (b ∷ []) n (one_danger ds a n j i.1)
           | inr j ↦ one_danger (ds ++ a ∷ []) b n j i.1
         ]
@@ -244,7 +244,7 @@ pub endanger_more : (nodes : List Node) (last : ℕ) (ts : List Target) (i : ℕ
     → SeesUnsafe nodes last (ds ++ record { left_unsafe = names (bounds_of (take (i + 1) ts)); known = bs } ∷ [])
 endanger_more nodes last ts i t ds bs l e h =
     let P : List (List ℕ) → Type 0 = λ ns. SeesUnsafe nodes last (ds ++ record { left_unsafe = ns; known = bs } ∷ []) in
-    subst P (sym (names_more ts i t l e)) (sees_same nodes last _ _ (danger_more ds bs (names (bounds_of (take i ts))) t.name.now) h)
+    subst P (sym (names_more ts i t l e)) (sees_same nodes last _ _ (danger_joined ds bs (names (bounds_of (take i ts))) (t.name.now ∷ [])) h)
 
 pub is_known_by : (bs cs : List Bound) (name : List ℕ) (at : Span) → Agree bs cs → Found bs name at → IsKnown cs name
 is_known_by bs cs name at a h = found_known cs name at (a.to name at h)

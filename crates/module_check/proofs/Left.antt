@@ -20,6 +20,8 @@ use Rattle.erl_syntax.specs.declared.qual.Qual.TheVariants as q
 use Rattle.erl_syntax.specs.declared.clause.Item.{Item}
 use Rattle.erl_syntax.specs.declared.clause.Alt.{Alt, out-Alt}
 use Rattle.erl_syntax.specs.declared.clause.Branch.{Branch, out-Branch}
+use Rattle.erl_syntax.specs.Scopes.{sizes_of}
+use Rattle.module_check.specs.Tasks.{built_exprs}
 use Rattle.module_check.specs.Unsafe.{unsafe_of, size_part, part_unsafe, segment_unsafe, item_unsafe, items_unsafe, alt_unsafe, alts_unsafe, branch_unsafe, branches_unsafe}
 
 -- a loop that adds what each element gives
@@ -93,6 +95,17 @@ segments_part (s ∷ sgs) = ap (λ zs. zs ++ unsafe_in (map vars_of_segment sgs)
 
 pub bits_unsafe : (e : Expr) (at : Span) (sgs : List Segment) → e ≡ x.Bits at sgs → segment_unsafe sgs ≡ (vars_of e).left_unsafe
 bits_unsafe e at sgs h = sym (ap (λ (z : Expr). (vars_of z).left_unsafe) (h ∙ sym (x.rolls-Bits at sgs)) ∙ ap (λ (v : Vars). v.left_unsafe) (fold-roll-Expr Vars (List Bound) Row (List (List ℕ)) (List (List ℕ)) (Unit {0}) (List (List ℕ)) Vars expr_layer pattern_layer qual_layer alt_layer branch_layer guard_layer item_layer segment_layer (O.Expr::Bits at sgs)) ∙ segments_part sgs)
+
+sizes_unsafe : (o : Option Expr) → unsafe_of (elim o [ None ↦ [] | Some e ↦ e ∷ [] ]) ≡ size_part o
+sizes_unsafe None = refl
+sizes_unsafe (Some e) = append-nil (vars_of e).left_unsafe
+
+-- of the segments of a bit expression
+pub built_unsafe : (sgs : List Segment) → unsafe_of (built_exprs sgs) ≡ segment_unsafe sgs
+built_unsafe [] = refl
+built_unsafe (g ∷ gs) =
+    let f : Expr → List (List ℕ) = λ e. (vars_of e).left_unsafe in
+    ap (λ zs. f g.value ++ zs) (flat_map-append f (sizes_of g) (built_exprs gs) ∙ ap (λ zs. zs ++ unsafe_of (built_exprs gs)) (sizes_unsafe g.size) ∙ ap (λ zs. size_part g.size ++ zs) (built_unsafe gs)) ∙ sym (append_assoc (f g.value) (size_part g.size) (segment_unsafe gs))
 
 pub own_value : (s : Segment) → (vars_of s.value).own ≡ (vars_of_segment s).own
 own_value s = sym (ap (λ (v : Vars). v.own) (fold_out-Segment Vars (List Bound) Row (List (List ℕ)) (List (List ℕ)) (Unit {0}) (List (List ℕ)) Vars expr_layer pattern_layer qual_layer alt_layer branch_layer guard_layer item_layer segment_layer s))

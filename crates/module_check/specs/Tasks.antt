@@ -1,10 +1,18 @@
 -- What is left to look at: parts with what is known where they stand.
 use Rattle.std.specs.Prelude.{◌≡◌, ◌≤◌, ℕ, Bool, true, false, List, [], ◌∷◌, ◌++◌, length, take, Option, Some, None}
-use Rattle.erl_syntax.specs.Bindings.{Bound, new_names}
+use Rattle.std.specs.List.{flat_map}
+use Rattle.erl_syntax.specs.Bindings.{Bound, targets, new_names}
 use Rattle.erl_syntax.specs.declared.expr.Expr.{Expr}
+use Rattle.erl_syntax.specs.declared.expr.Expr.TheOpen as O
+use Rattle.erl_syntax.specs.declared.pattern.Pattern.{Pattern}
+use Rattle.erl_syntax.specs.declared.segment.Segment.{Segment}
+use Rattle.erl_syntax.specs.declared.clause.Item.{Item}
+use Rattle.erl_syntax.specs.declared.clause.Guard.{Guard}
+use Rattle.erl_syntax.specs.declared.clause.Alt.{Alt}
+use Rattle.erl_syntax.specs.declared.clause.Branch.{Branch}
 use Rattle.erl_syntax.specs.declared.qual.Qual.{Qual}
 use Rattle.erl_syntax.specs.Scopes
-use Rattle.erl_syntax.specs.Scopes.{Scope, AnExpr, APattern, ABody, ASegment}
+use Rattle.erl_syntax.specs.Scopes.{Scope, AnExpr, APattern, ABody, ASegment, with_known, past_items, sizes_of}
 use Rattle.erl_syntax.specs.declared.typing.SideUse.TheVariants as side
 use Rattle.module_check.specs.declared.trees.Node.{Node}
 use Rattle.module_check.specs.declared.tasks.Part.{Part}
@@ -103,3 +111,15 @@ with_new g s = record s { known = new_names g ++ s.known }
 abbrev pub size_in : Scope → Option Expr → List Spot
 size_in s None = []
 size_in s (Some e) = spot s (AnExpr e) ∷ []
+
+-- behind a part that leaves these names unsafe
+abbrev pub left_behind : List (List ℕ) → Scope → Scope
+left_behind ns s = record s { dangers = s.dangers ++ record { left_unsafe = ns; known = s.known } ∷ [] }
+
+-- at the end of a clause of a `case` or a `receive`
+abbrev pub past_alt : O.Alt-F Expr Pattern Qual Alt Branch Guard Item Segment → Scope → Scope
+past_alt a s = past_items a.body (with_known (targets a.pattern) s)
+
+-- the expressions of these segments, one behind another
+abbrev pub built_exprs : List Segment → List Expr
+built_exprs sgs = flat_map (λ g. g.value ∷ sizes_of g) sgs

@@ -38,3 +38,14 @@ branch_unsafe y = items_unsafe (out-Branch y).body
 
 abbrev pub branches_unsafe : List Branch → List (List ℕ)
 branches_unsafe bs = flat_map branch_unsafe bs
+
+-- the variables of the patterns of an item
+abbrev pub item_bound : Item → List (List ℕ)
+item_bound i = names (targets_of i.patterns)
+
+-- those of a body, but of none inside its expressions
+abbrev pub items_bound : List Item → List (List ℕ)
+items_bound is = flat_map item_bound is
+
+abbrev pub alt_bound : Alt → List (List ℕ)
+alt_bound y = names (targets (out-Alt y).pattern) ++ items_bound (out-Alt y).body

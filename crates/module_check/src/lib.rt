@@ -6,6 +6,7 @@ mod calls;
 mod checking;
 mod forms;
 mod index;
+mod joins;
 mod laws;
 mod names;
 mod numbers;

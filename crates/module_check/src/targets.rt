@@ -1,7 +1,7 @@
 ghost use Rattle.std.specs.Prelude.{◌≡◌, ◌++◌, IfOk};
 ghost use Rattle.erl_syntax.specs.Bindings.{names, targets, targets_of, segment_targets, vars_of, new_names, qual_unsafe};
 ghost use Rattle.module_check.specs.Nodes.{bounds_of};
-ghost use Rattle.module_check.specs.Unsafe.{unsafe_of, segment_unsafe, alts_unsafe, branches_unsafe, items_unsafe, part_unsafe};
+ghost use Rattle.module_check.specs.Unsafe.{unsafe_of, segment_unsafe, alt_unsafe, alts_unsafe, branches_unsafe, items_unsafe, items_bound, alt_bound, part_unsafe};
 
 use crate::scopes::Target;
 use erl_syntax::{Alt, Branch, Expr, Item, Pattern, Qual, Segment};
@@ -134,19 +134,32 @@ fn add_segments<'a>(found: &mut Vec<Target<'a>>, segments: &'a [Segment]) -> Res
     Ok(())
 }
 
+/// Adds the variables that a clause of a `case` or a `receive` leaves unsafe.
 #[cycle(left)]
-fn add_alts<'a>(found: &mut Vec<Target<'a>>, alts: &'a [Alt]) -> Result<(), AllocError>
+pub(crate) fn add_alt<'a>(found: &mut Vec<Target<'a>>, alt: &'a Alt) -> Result<(), AllocError>
+    ensures { IfOk result (λ u. names (bounds_of found.new.items) ≡ names (bounds_of found.old.items) ++ alt_unsafe alt.now) }
+{
+    add_targets(found, &alt.pattern)?;
+    add_body(found, alt.body.items())
+}
+
+/// Adds the variables that these clauses leave unsafe.
+#[cycle(left)]
+pub(crate) fn add_alts<'a>(found: &mut Vec<Target<'a>>, alts: &'a [Alt]) -> Result<(), AllocError>
     ensures { IfOk result (λ u. names (bounds_of found.new.items) ≡ names (bounds_of found.old.items) ++ alts_unsafe alts.now) }
 {
     for alt in alts {
-        add_targets(found, &alt.pattern)?;
-        add_body(found, alt.body.items())?;
+        add_alt(found, alt)?;
     }
     Ok(())
 }
 
+/// Adds the variables that the clauses of an `if` leave unsafe.
 #[cycle(left)]
-fn add_branches<'a>(found: &mut Vec<Target<'a>>, branches: &'a [Branch]) -> Result<(), AllocError>
+pub(crate) fn add_branches<'a>(
+    found: &mut Vec<Target<'a>>,
+    branches: &'a [Branch],
+) -> Result<(), AllocError>
     ensures { IfOk result (λ u. names (bounds_of found.new.items) ≡ names (bounds_of found.old.items) ++ branches_unsafe branches.now) }
 {
     for branch in branches {
@@ -155,8 +168,9 @@ fn add_branches<'a>(found: &mut Vec<Target<'a>>, branches: &'a [Branch]) -> Resu
     Ok(())
 }
 
+/// Adds the variables that a body leaves unsafe.
 #[cycle(left)]
-fn add_body<'a>(found: &mut Vec<Target<'a>>, items: &'a [Item]) -> Result<(), AllocError>
+pub(crate) fn add_body<'a>(found: &mut Vec<Target<'a>>, items: &'a [Item]) -> Result<(), AllocError>
     ensures { IfOk result (λ u. names (bounds_of found.new.items) ≡ names (bounds_of found.old.items) ++ items_unsafe items.now) }
 {
     for item in items {
@@ -164,6 +178,27 @@ fn add_body<'a>(found: &mut Vec<Target<'a>>, items: &'a [Item]) -> Result<(), Al
         add_unsafe(found, &item.value)?;
     }
     Ok(())
+}
+
+/// Adds the variables of the patterns of a body, but of none inside its expressions.
+pub(crate) fn add_bound<'a>(
+    found: &mut Vec<Target<'a>>,
+    items: &'a [Item],
+) -> Result<(), AllocError>
+    ensures { IfOk result (λ u. names (bounds_of found.new.items) ≡ names (bounds_of found.old.items) ++ items_bound items.now) }
+{
+    for item in items {
+        add_targets_of(found, item.patterns.items())?;
+    }
+    Ok(())
+}
+
+/// Adds those of the pattern and of the body of a clause of a `case` or a `receive`.
+pub(crate) fn add_alt_bound<'a>(found: &mut Vec<Target<'a>>, alt: &'a Alt) -> Result<(), AllocError>
+    ensures { IfOk result (λ u. names (bounds_of found.new.items) ≡ names (bounds_of found.old.items) ++ alt_bound alt.now) }
+{
+    add_targets(found, &alt.pattern)?;
+    add_bound(found, alt.body.items())
 }
 
 /// Adds the new variables of a qualifier.

@@ -1,18 +1,20 @@
 //! What is left to look at: parts of a function with what is known where they stand.
 
 ghost use Rattle.std.specs.Prelude.{◌≡◌, ◌++◌, ◌∷◌, [], Bool, true, false, List, IfOk, reverse, length, drop, ◌<◌, ◌+◌};
-ghost use Rattle.erl_syntax.specs.Bindings.{Bound, targets, targets_of};
+ghost use Rattle.erl_syntax.specs.Bindings.{Bound, names, targets, targets_of};
 ghost use Rattle.erl_syntax.specs.declared.clause.Alt.{out-Alt};
 ghost use Rattle.erl_syntax.specs.declared.clause.Branch.{out-Branch};
 ghost use Rattle.erl_syntax.specs.declared.typing.SideUse.TheVariants.{Build, Generator};
 ghost use Rattle.erl_syntax.specs.declared.segment.Segment.{Segment};
 ghost use Rattle.erl_syntax.specs.declared.pattern.Pattern.{Pattern};
-ghost use Rattle.erl_syntax.specs.Scopes.{Scope, AnExpr, APattern, ASegment, behind, with_known, in_guard, to_match, to_generate, past_patterns, past_segments, past_items, past_quals, generated, sizes_of, is_empty};
+ghost use Rattle.erl_syntax.specs.Scopes.{Scope, Danger, AnExpr, APattern, ABody, ASegment, behind, with_known, in_guard, to_match, to_generate, past_patterns, past_segments, past_items, past_quals, generated, sizes_of, is_empty};
 ghost use Rattle.erl_syntax.specs.declared.expr.Expr.{Expr};
-ghost use Rattle.module_check.specs.Nodes.{Sees, bound_of, bounds_of};
+ghost use Rattle.module_check.specs.Nodes.{Sees, SeesUnsafe, bound_of, bounds_of};
 ghost use Rattle.module_check.specs.Spots.{Spot, spot, each, expr_in, same_in, tests_in, guard_in, pattern_in, matched_in, item_in, items_in, built_in_turn, segment_in, alt_layer_in, alt_in, branch_layer_in, branch_in, qual_in, quals_in, comprehension_in, inside_expr, inside_pattern, size_scope, inside_segment, inside, clause_in, clauses_in};
-ghost use Rattle.module_check.specs.Tasks.{part_of, Means, SeesSizes, Fits, left_in, Adds, AddsAlone, Passes, passed, with_new, size_in};
+ghost use Rattle.module_check.specs.Tasks.{part_of, Means, SeesSizes, Fits, left_in, Adds, AddsAlone, Passes, passed, with_new, size_in, left_behind, past_alt, built_exprs};
+ghost use Rattle.module_check.specs.Unsafe.{alt_unsafe, alts_unsafe, branch_unsafe, branches_unsafe};
 
+use crate::joins::is_larger;
 use crate::scopes::{Target, append, append_all, endanger, put_all};
 use crate::targets::{add_new, add_qual_unsafe, add_segment_target, add_targets, add_unsafe};
 use crate::trees::{Node, find, put};
@@ -90,8 +92,7 @@ impl<'a> Walk<'a> {
 
     /// The setting behind an expression.
     fn behind(&mut self, setting: Setting, expr: &'a Expr) -> Result<Setting, AllocError>
-        ensures adds { IfOk result (λ after. Adds self.old self.new []) }
-        ensures means { IfOk result (λ after. (s : Scope) → Means self.old.nodes.items setting s → Means self.new.nodes.items after (behind (expr.now ∷ []) s)) }
+        ensures { IfOk result (λ after. Adds self.old self.new [] × ((s : Scope) → Means self.old.nodes.items setting s → Means self.new.nodes.items after (behind (expr.now ∷ []) s))) }
     {
         let mut found = Vec::new(self.alloc);
         add_unsafe(&mut found, expr)?;
@@ -107,18 +108,6 @@ impl<'a> Walk<'a> {
         add_targets(&mut found, pattern)?;
         let known = append_all(&mut self.nodes, setting.known, &found)?;
         Ok(Setting { known, ..setting })
-    }
-
-    /// Expressions one behind another, and the setting behind them.
-    fn push_exprs(&mut self, setting: Setting, exprs: &'a [Expr]) -> Result<Setting, AllocError>
-        ensures { IfOk result (λ after. (s : Scope) (front : List Expr) → Means self.old.nodes.items setting (behind front s) → Adds self.old self.new (each (expr_in s) front exprs.now) × Means self.new.nodes.items after (behind (front ++ exprs.now) s)) }
-    {
-        let mut after = setting;
-        for expr in exprs {
-            self.push(after, Part::Expr(expr))?;
-            after = self.behind(after, expr)?;
-        }
-        Ok(after)
     }
 
     /// Expressions in one setting.
@@ -166,58 +155,6 @@ impl<'a> Walk<'a> {
             after = self.push_pattern(matched, pattern)?;
         }
         Ok(after)
-    }
-
-    /// An item of a body, and the setting behind it.
-    fn push_item(&mut self, setting: Setting, item: &'a Item) -> Result<Setting, AllocError>
-        ensures { IfOk result (λ after. (s : Scope) → Means self.old.nodes.items setting s → Adds self.old self.new (item_in s item.now) × Means self.new.nodes.items after (past_items (item.now ∷ []) s)) }
-    {
-        self.push(setting, Part::Expr(&item.value))?;
-        let matched = self.push_matched(setting, item.patterns.items())?;
-        let behind = self.behind(setting, &item.value)?;
-        Ok(Setting {
-            known: matched.known,
-            ..behind
-        })
-    }
-
-    fn push_items(&mut self, setting: Setting, items: &'a [Item]) -> Result<(), AllocError>
-        ensures { IfOk result (λ u. (s : Scope) → Means self.old.nodes.items setting s → Adds self.old self.new (each (items_in s) [] items.now)) }
-    {
-        let mut after = setting;
-        for item in items {
-            after = self.push_item(after, item)?;
-        }
-        Ok(())
-    }
-
-    /// The setting behind a segment of a bit expression.
-    fn behind_segment(
-        &mut self,
-        setting: Setting,
-        segment: &'a Segment,
-    ) -> Result<Setting, AllocError>
-        ensures adds { IfOk result (λ after. Adds self.old self.new []) }
-        ensures means { IfOk result (λ after. (s : Scope) → Means self.old.nodes.items setting s → Means self.new.nodes.items after (behind (segment.now.value ∷ sizes_of segment.now) s)) }
-    {
-        let after = self.behind(setting, &segment.value)?;
-        match &segment.size {
-            Some(size) => self.behind(after, size),
-            None => Ok(after),
-        }
-    }
-
-    /// The segments of a bit expression.
-    fn push_built(&mut self, setting: Setting, segments: &'a [Segment]) -> Result<(), AllocError>
-        ensures { IfOk result (λ u. (s : Scope) → Means self.old.nodes.items setting s → Adds self.old self.new (each (built_in_turn s) [] segments.now)) }
-    {
-        let mut after = setting;
-        for (index, segment) in segments.iter().enumerate() {
-            let last = is_last(segments, index);
-            self.push(after, Part::Segment(SideUse::Build, last, segment))?;
-            after = self.behind_segment(after, segment)?;
-        }
-        Ok(())
     }
 
     /// The setting behind a variable of a bit pattern.
@@ -281,47 +218,6 @@ impl<'a> Walk<'a> {
             let last = is_last(segments, index);
             self.push(after, Part::Segment(side, last, segment))?;
             after = self.pass_segment(after, segment)?;
-        }
-        Ok(())
-    }
-
-    /// A clause of a `case` or a `receive`.
-    fn push_alt(&mut self, setting: Setting, alt: &'a Alt) -> Result<(), AllocError>
-        ensures { IfOk result (λ u. (s : Scope) → Means self.old.nodes.items setting s → Adds self.old self.new (alt_layer_in s (out-Alt alt.now))) }
-    {
-        let matched = Setting {
-            sizes: setting.known,
-            ..setting
-        };
-        let known = self.push_pattern(matched, &alt.pattern)?;
-        self.push_guard(known, &alt.guard)?;
-        let body = alt.body.items();
-        self.push(known, Part::Body(body))
-    }
-
-    fn push_alts(&mut self, setting: Setting, alts: &'a [Alt]) -> Result<(), AllocError>
-        ensures { IfOk result (λ u. (s : Scope) → Means self.old.nodes.items setting s → Adds self.old self.new (each (alt_in s) [] alts.now)) }
-    {
-        for alt in alts {
-            self.push_alt(setting, alt)?;
-        }
-        Ok(())
-    }
-
-    /// A clause of an `if`.
-    fn push_branch(&mut self, setting: Setting, branch: &'a Branch) -> Result<(), AllocError>
-        ensures { IfOk result (λ u. (s : Scope) → Means self.old.nodes.items setting s → Adds self.old self.new (branch_layer_in s (out-Branch branch.now))) }
-    {
-        self.push_guard(setting, &branch.guard)?;
-        let body = branch.body.items();
-        self.push(setting, Part::Body(body))
-    }
-
-    fn push_branches(&mut self, setting: Setting, branches: &'a [Branch]) -> Result<(), AllocError>
-        ensures { IfOk result (λ u. (s : Scope) → Means self.old.nodes.items setting s → Adds self.old self.new (each (branch_in s) [] branches.now)) }
-    {
-        for branch in branches {
-            self.push_branch(setting, branch)?;
         }
         Ok(())
     }
@@ -462,41 +358,175 @@ impl<'a> Walk<'a> {
         self.push_quals(outer, quals)
     }
 
-    /// What stands inside an expression.
-    fn push_expr(&mut self, setting: Setting, expr: &'a Expr) -> Result<(), AllocError>
-        ensures { IfOk result (λ u. (s : Scope) → Means self.old.nodes.items setting s → Adds self.old self.new (inside_expr s expr.now)) }
+    /// A clause of a `case` or a `receive`, and the setting at its end.
+    #[cycle(expr)]
+    fn push_alt(&mut self, setting: Setting, alt: &'a Alt) -> Result<Setting, AllocError>
+        ensures { IfOk result (λ after. (s : Scope) → Means self.old.nodes.items setting s → Adds self.old self.new (alt_layer_in s (out-Alt alt.now)) × Means self.new.nodes.items after (past_alt (out-Alt alt.now) s)) }
+    {
+        let matched = Setting {
+            sizes: setting.known,
+            ..setting
+        };
+        let known = self.push_pattern(matched, &alt.pattern)?;
+        self.push_guard(known, &alt.guard)?;
+        self.push_body(known, alt.body.items())
+    }
+
+    /// The clauses of a `case` or a `receive`, and the setting behind them.
+    #[cycle(expr)]
+    fn push_alts(&mut self, setting: Setting, alts: &'a [Alt]) -> Result<Setting, AllocError>
+        ensures { IfOk result (λ after. (s : Scope) → Means self.old.nodes.items setting s → Adds self.old self.new (each (alt_in s) [] alts.now) × Means self.new.nodes.items after (left_behind (alts_unsafe alts.now) s)) }
+    {
+        let start = self.tasks.len();
+        let mut joined = setting;
+        for (index, alt) in alts.iter().enumerate() {
+            let middle = self.tasks.len();
+            let after = self.push_alt(setting, alt)?;
+            let larger = is_larger(start, middle, self.tasks.len());
+            let before = &alts[..index];
+            joined = self.join_alt(joined, after, larger, before, alt)?;
+        }
+        Ok(joined)
+    }
+
+    /// A clause of an `if`, and the setting at its end.
+    #[cycle(expr)]
+    fn push_branch(&mut self, setting: Setting, branch: &'a Branch) -> Result<Setting, AllocError>
+        ensures { IfOk result (λ after. (s : Scope) → Means self.old.nodes.items setting s → Adds self.old self.new (branch_layer_in s (out-Branch branch.now)) × Means self.new.nodes.items after (past_items (out-Branch branch.now).body s)) }
+    {
+        self.push_guard(setting, &branch.guard)?;
+        self.push_body(setting, branch.body.items())
+    }
+
+    /// The clauses of an `if`, and the setting behind them.
+    #[cycle(expr)]
+    fn push_branches(
+        &mut self,
+        setting: Setting,
+        branches: &'a [Branch],
+    ) -> Result<Setting, AllocError>
+        ensures { IfOk result (λ after. (s : Scope) → Means self.old.nodes.items setting s → Adds self.old self.new (each (branch_in s) [] branches.now) × Means self.new.nodes.items after (left_behind (branches_unsafe branches.now) s)) }
+    {
+        let start = self.tasks.len();
+        let mut joined = setting;
+        for (index, branch) in branches.iter().enumerate() {
+            let middle = self.tasks.len();
+            let after = self.push_branch(setting, branch)?;
+            let larger = is_larger(start, middle, self.tasks.len());
+            let before = &branches[..index];
+            let body = branch.body.items();
+            joined = self.join_branch(joined, after, larger, before, body)?;
+        }
+        Ok(joined)
+    }
+
+    /// A body, and the setting at its end.
+    #[cycle(expr)]
+    fn push_body(&mut self, setting: Setting, items: &'a [Item]) -> Result<Setting, AllocError>
+        ensures { IfOk result (λ after. (s : Scope) → Means self.old.nodes.items setting s → Adds self.old self.new (spot s (ABody items.now) ∷ []) × Means self.new.nodes.items after (past_items items.now s)) }
+    {
+        self.push_alone(setting, Part::Body(items))?;
+        self.push_items(setting, items)
+    }
+
+    #[cycle(expr)]
+    fn push_items(&mut self, setting: Setting, items: &'a [Item]) -> Result<Setting, AllocError>
+        ensures { IfOk result (λ after. (s : Scope) → Means self.old.nodes.items setting s → Adds self.old self.new (each (items_in s) [] items.now) × Means self.new.nodes.items after (past_items items.now s)) }
+    {
+        let mut after = setting;
+        for item in items {
+            let behind = self.push_expr(after, &item.value)?;
+            let matched = self.push_matched(after, item.patterns.items())?;
+            after = Setting {
+                known: matched.known,
+                ..behind
+            };
+        }
+        Ok(after)
+    }
+
+    /// The segments of a bit expression, and the setting behind them.
+    #[cycle(expr)]
+    fn push_built(
+        &mut self,
+        setting: Setting,
+        segments: &'a [Segment],
+    ) -> Result<Setting, AllocError>
+        ensures { IfOk result (λ after. (s : Scope) → Means self.old.nodes.items setting s → Adds self.old self.new (each (built_in_turn s) [] segments.now) × Means self.new.nodes.items after (behind (built_exprs segments.now) s)) }
+    {
+        let mut after = setting;
+        for (index, segment) in segments.iter().enumerate() {
+            let last = is_last(segments, index);
+            self.push_alone(after, Part::Segment(SideUse::Build, last, segment))?;
+            after = self.push_value(after, segment)?;
+        }
+        Ok(after)
+    }
+
+    /// What stands inside a segment of a bit expression, and the setting behind it.
+    #[cycle(expr)]
+    fn push_value(&mut self, setting: Setting, segment: &'a Segment) -> Result<Setting, AllocError>
+        ensures { IfOk result (λ after. (s : Scope) → Means self.old.nodes.items setting s → Adds self.old self.new (inside_segment s Build segment.now) × Means self.new.nodes.items after (behind (segment.now.value ∷ sizes_of segment.now) s)) }
+    {
+        let behind = self.push_expr(setting, &segment.value)?;
+        match &segment.size {
+            Some(size) => self.push_expr(behind, size),
+            None => Ok(behind),
+        }
+    }
+
+    /// Expressions one behind another, and the setting behind them.
+    #[cycle(expr)]
+    fn push_exprs(&mut self, setting: Setting, exprs: &'a [Expr]) -> Result<Setting, AllocError>
+        ensures { IfOk result (λ after. (s : Scope) (front : List Expr) → Means self.old.nodes.items setting (behind front s) → Adds self.old self.new (each (expr_in s) front exprs.now) × Means self.new.nodes.items after (behind (front ++ exprs.now) s)) }
+    {
+        let mut after = setting;
+        for expr in exprs {
+            after = self.push_expr(after, expr)?;
+        }
+        Ok(after)
+    }
+
+    /// An expression, and the setting behind it.
+    #[cycle(expr)]
+    fn push_expr(&mut self, setting: Setting, expr: &'a Expr) -> Result<Setting, AllocError>
+        ensures { IfOk result (λ after. (s : Scope) → Means self.old.nodes.items setting s → Adds self.old self.new (spot s (AnExpr expr.now) ∷ []) × Means self.new.nodes.items after (behind (expr.now ∷ []) s)) }
+    {
+        self.push_alone(setting, Part::Expr(expr))?;
+        self.push_in_expr(setting, expr)
+    }
+
+    /// What stands inside an expression, and the setting behind it.
+    #[cycle(expr)]
+    fn push_in_expr(&mut self, setting: Setting, expr: &'a Expr) -> Result<Setting, AllocError>
+        ensures { IfOk result (λ after. (s : Scope) → Means self.old.nodes.items setting s → Adds self.old self.new (inside_expr s expr.now) × Means self.new.nodes.items after (behind (expr.now ∷ []) s)) }
     {
         match expr {
-            Expr::Tuple { items, .. } => self.push_parts(setting, items.items()),
+            Expr::Tuple { items, .. } => self.push_exprs(setting, items.items()),
             Expr::List { items, tail, .. } => {
                 let behind = self.push_exprs(setting, items.items())?;
-                self.push_parts(behind, tail.items())
+                self.push_exprs(behind, tail.items())
             }
             Expr::Bits { segments, .. } => self.push_built(setting, segments.items()),
             Expr::ListFor { row, quals, .. } => {
-                self.push_comprehension(setting, row.items(), quals.items())
+                self.push_comprehension(setting, row.items(), quals.items())?;
+                self.behind(setting, expr)
             }
             Expr::BitsFor { row, quals, .. } => {
-                self.push_comprehension(setting, row.items(), quals.items())
+                self.push_comprehension(setting, row.items(), quals.items())?;
+                self.behind(setting, expr)
             }
-            Expr::Call { args, .. } => self.push_parts(setting, args.items()),
+            Expr::Call { args, .. } => self.push_exprs(setting, args.items()),
             Expr::Case { value, alts, .. } => {
                 let behind = self.push_exprs(setting, value.items())?;
                 self.push_alts(behind, alts.items())
             }
             Expr::Receive { alts, .. } => self.push_alts(setting, alts.items()),
             Expr::If { branches, .. } => self.push_branches(setting, branches.items()),
-            Expr::Unary { part, .. } => self.push_parts(setting, part.items()),
-            Expr::Binary { parts, .. } => self.push_parts(setting, parts.items()),
-            _ => Ok(()),
+            Expr::Unary { part, .. } => self.push_exprs(setting, part.items()),
+            Expr::Binary { parts, .. } => self.push_exprs(setting, parts.items()),
+            _ => self.behind(setting, expr),
         }
-    }
-
-    fn push_parts(&mut self, setting: Setting, exprs: &'a [Expr]) -> Result<(), AllocError>
-        ensures { IfOk result (λ u. (s : Scope) (front : List Expr) → Means self.old.nodes.items setting (behind front s) → Adds self.old self.new (each (expr_in s) front exprs.now)) }
-    {
-        self.push_exprs(setting, exprs)?;
-        Ok(())
     }
 
     /// A pattern, and the setting behind it.
@@ -552,15 +582,6 @@ impl<'a> Walk<'a> {
         Ok(after)
     }
 
-    /// What stands inside a segment of a bit expression.
-    fn push_value(&mut self, setting: Setting, segment: &'a Segment) -> Result<(), AllocError>
-        ensures { IfOk result (λ u. (s : Scope) → Means self.old.nodes.items setting s → Adds self.old self.new (inside_segment s Build segment.now)) }
-    {
-        self.push(setting, Part::Expr(&segment.value))?;
-        let behind = self.behind(setting, &segment.value)?;
-        self.push_size(behind, &segment.size)
-    }
-
     /// The size of a segment, where one is written.
     fn push_size(&mut self, setting: Setting, size: &'a Option<Expr>) -> Result<(), AllocError>
         ensures { IfOk result (λ u. (s : Scope) → Means self.old.nodes.items setting s → Adds self.old self.new (size_in s size.now)) }
@@ -593,7 +614,10 @@ impl<'a> Walk<'a> {
         ensures { IfOk result (λ u. (s : Scope) (last : Bool) → Means self.old.nodes.items setting s → SeesSizes self.old.nodes.items setting.sizes s (ASegment side last segment.now) → Adds self.old self.new (inside_segment s side segment.now)) }
     {
         match side {
-            SideUse::Build => self.push_value(setting, segment),
+            SideUse::Build => {
+                self.push_value(setting, segment)?;
+                Ok(())
+            }
             SideUse::Match => self.push_sized(setting, segment),
             SideUse::Generator => self.push_sized(setting, segment),
         }
@@ -604,12 +628,18 @@ impl<'a> Walk<'a> {
         ensures { IfOk result (λ u. (s : Scope) → Means self.old.nodes.items setting s → SeesSizes self.old.nodes.items setting.sizes s (part_of part.entry) → Adds self.old self.new (inside s (part_of part.entry))) }
     {
         match part {
-            Part::Expr(expr) => self.push_expr(setting, expr),
+            Part::Expr(expr) => {
+                self.push_in_expr(setting, expr)?;
+                Ok(())
+            }
             Part::Pattern(pattern) => {
                 self.push_in_pattern(setting, pattern)?;
                 Ok(())
             }
-            Part::Body(items) => self.push_items(setting, items),
+            Part::Body(items) => {
+                self.push_items(setting, items)?;
+                Ok(())
+            }
             Part::Segment(side, _, segment) => self.push_segment(setting, side, segment),
         }
     }
@@ -637,8 +667,8 @@ impl<'a> Walk<'a> {
         };
         let known = self.push_patterns(nothing, clause.patterns.items())?;
         self.push_guard(known, &clause.guard)?;
-        let body = clause.body.items();
-        self.push(known, Part::Body(body))
+        self.push_body(known, clause.body.items())?;
+        Ok(())
     }
 
     /// The clauses of a function.

@@ -52,8 +52,11 @@ add_branches-loop-branch-preserved t c = flat_more branch_unsafe c.args.branches
 pub add_branches-returns : goal.add_branches-returns
 add_branches-returns t c = flat_end branch_unsafe c.args.branches.now c.loop-branch.branch-index (names (bounds_of c.args.found.now.items)) (names (bounds_of c.loop-branch.found.items)) (omega arith) c.loop-branch.invariant
 
+pub add_alt-returns : goal.add_alt-returns
+add_alt-returns t c = IfOk-weaker c.add_body.result _ _ (λ u h. twice _ _ _ _ _ _ (names_added _ _ _ c.in_ok-add_targets.ensures) h (ap (λ zs. names (targets (out-Alt c.args.alt.now).pattern) ++ items_unsafe zs) c.items.ensures)) c.add_body.ensures
+
 pub add_alts-loop-alt-preserved : goal.add_alts-loop-alt-preserved
-add_alts-loop-alt-preserved t c = flat_more alt_unsafe c.args.alts.now c.loop-alt.alt-index c.alt-item.result (names (bounds_of c.args.found.now.items)) (names (bounds_of c.loop-alt.found.items)) (names (bounds_of c.add_body.new.found.items)) (omega arith) c.alt-item.is c.loop-alt.invariant (twice _ _ _ _ _ _ (names_added _ _ _ c.in_ok-add_targets.ensures) c.in_ok-add_body.ensures (ap (λ zs. names (targets (out-Alt c.alt-item.result).pattern) ++ items_unsafe zs) c.items.ensures))
+add_alts-loop-alt-preserved t c = flat_more alt_unsafe c.args.alts.now c.loop-alt.alt-index c.alt-item.result (names (bounds_of c.args.found.now.items)) (names (bounds_of c.loop-alt.found.items)) (names (bounds_of c.add_alt.new.found.items)) (omega arith) c.alt-item.is c.loop-alt.invariant c.in_ok-add_alt.ensures
 
 pub add_alts-returns : goal.add_alts-returns
 add_alts-returns t c = flat_end alt_unsafe c.args.alts.now c.loop-alt.alt-index (names (bounds_of c.args.found.now.items)) (names (bounds_of c.loop-alt.found.items)) (omega arith) c.loop-alt.invariant

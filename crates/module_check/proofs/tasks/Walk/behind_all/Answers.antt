@@ -9,11 +9,11 @@ loop-expr-init c = record { adds = adds_none c.args.self.now; means = λ s m. me
 
 pub loop-expr-preserved : goal.loop-expr-preserved
 loop-expr-preserved c = record {
-  adds = adds_then c.args.self.now c.loop-expr.self c.behind.new.self [] c.loop-expr.invariant.adds c.in_ok-after.ensures.adds;
+  adds = adds_then c.args.self.now c.loop-expr.self c.behind.new.self [] c.loop-expr.invariant.adds c.in_ok-after.ensures.0;
   means = λ s m.
       let i = c.loop-expr.expr-index in
       let xs = c.args.exprs.now in
       let one = c.expr-item.result in
       let l : i < length xs = omega arith in
-      means_front _ _ (λ fs. behind fs s) (take i xs ++ one ∷ []) (take (i + 1) xs) (passed_more [] xs i one l c.expr-item.is) (means_same _ _ _ _ (behind_more s (take i xs) one) (c.in_ok-after.ensures.means (behind (take i xs) s) (c.loop-expr.invariant.means s m)));
+      means_front _ _ (λ fs. behind fs s) (take i xs ++ one ∷ []) (take (i + 1) xs) (passed_more [] xs i one l c.expr-item.is) (means_same _ _ _ _ (behind_more s (take i xs) one) (c.in_ok-after.ensures.1 (behind (take i xs) s) (c.loop-expr.invariant.means s m)));
 }

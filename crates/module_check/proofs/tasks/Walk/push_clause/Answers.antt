@@ -1,5 +1,4 @@
 use Rattle.std.proofs.Common.{sym, [], ◌∷◌, ◌++◌, ap}
-use Rattle.std.proofs.lemmas.Result.{IfOk-weaker}
 use Rattle.erl_syntax.specs.Scopes.{ABody, in_guard, to_match, past_patterns, nothing_known}
 use Rattle.module_check.specs.Spots.{spot, guard_in, patterns_in}
 use Rattle.module_check.specs.Tasks.{Means}
@@ -8,7 +7,7 @@ use Rattle.module_check.proofs.Passing.{means_nothing, sees_nothing}
 use Rattle.module_check.proofs.tasks.Walk.push_clause.Goals as goal
 
 pub returns : goal.returns
-returns c = IfOk-weaker c.push.result _ _ (λ u h.
+returns c =
     let cl = c.args.clause.now in
     let e = c.items.ensures in
     let ps = c.items.result.now in
@@ -17,7 +16,6 @@ returns c = IfOk-weaker c.push.result _ _ (λ u h.
     let t = past_patterns ps nothing_known in
     let k : Means c.push_patterns.new.self.nodes.items c.in_ok-known.known t = record { known = one.1.0.known; dangers = one.1.0.dangers; guarded = one.1.0.guarded } in
     let two = c.in_ok-push_guard.ensures t k in
-    let d = spot t (ABody cl.body) in
-    let three = h d (record { part = ap ABody c.items-body.ensures; means = means_grown _ _ _ _ two.grown k; sizes = tt }) in
+    let three = adds_same _ _ _ _ (ap (λ zs. spot t (ABody zs) ∷ []) c.items-2.ensures) (c.in_ok-push_body.ensures t (means_grown _ _ _ _ two.grown k)).0 in
     adds_same _ _ _ _ (ap (λ zs. patterns_in (to_match nothing_known) zs ++ (guard_in (in_guard (past_patterns zs nothing_known)) cl.guard ++ spot (past_patterns zs nothing_known) (ABody cl.body) ∷ [])) e)
-    (adds_twice c.args.self.now c.push_patterns.new.self c.push.new.self _ _ one.0 (adds_twice c.push_patterns.new.self c.push_guard.new.self c.push.new.self _ (d ∷ []) two three))) c.push.ensures
+    (adds_twice c.args.self.now c.push_patterns.new.self c.push_body.new.self _ _ one.0 (adds_twice c.push_patterns.new.self c.push_guard.new.self c.push_body.new.self _ _ two three))
