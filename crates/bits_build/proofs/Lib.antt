@@ -1,0 +1,4 @@
+pub mod Built
+pub mod Front
+pub mod Segments
+pub mod Sizes
