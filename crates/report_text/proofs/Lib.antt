@@ -1,0 +1,3 @@
+pub mod Exact
+pub mod LineParts
+pub mod Numbers

@@ -1,0 +1,8 @@
+// Laws of reading an order's text, each the contract of a function that does nothing.
+ghost use Rattle.report_text.specs.Laws.{OrderOrFault};
+
+/// A text that spells an order has no line that is no entry, and one line is the first that is none. So the answers of
+/// `read_order` come exactly where they are due.
+pub fn order_or_fault()
+    ensures { OrderOrFault }
+{}
