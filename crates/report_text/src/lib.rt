@@ -10,6 +10,3 @@ mod reports;
 pub use laws::order_or_fault;
 pub use lines::{OrderFault, order, read_order};
 pub use reports::report;
-
-#[cfg(test)]
-mod tests;

@@ -1,4 +1,4 @@
-use crate::{OrderFault, order, order_or_fault, read_order, report};
+use report_text::{OrderFault, order, order_or_fault, read_order, report};
 use erl_syntax::{Listed, Text};
 use std::test::Fail;
 use term_value::{Entry, Outcome};
