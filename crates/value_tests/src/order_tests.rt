@@ -1,5 +1,5 @@
-use report_text::{OrderFault, order, order_or_fault, read_order, report};
 use erl_syntax::{Listed, Text};
+use report_text::{OrderFault, order, order_or_fault, read_order, report};
 use std::test::Fail;
 use term_value::{Entry, Outcome};
 
