@@ -1,11 +1,12 @@
 -- What an evaluation's answer says of its definition (this project's own).
-use Rattle.std.specs.Prelude.{◌≡◌, ◌⊎◌, ℕ, Bool, List}
+use Rattle.std.specs.Prelude.{◌≡◌, ◌⊎◌, ◌<◌, ℕ, Bool, List, [], length, slice_index_or}
 use Rattle.std.specs.declared.result.Result.{Result as Answer}
 use Rattle.std.specs.declared.result.Result.TheVariants.{Ok, Err}
 use Rattle.erl_syntax.specs.Atoms as atom
 use Rattle.term_value.specs.Value.{Value, VAtom, VTuple, none, more}
 use Rattle.term_value.specs.Result.{Result, Gives, Stops, Raise, Limit}
-use Rattle.term_value.specs.Terms.{value_of}
+use Rattle.term_value.specs.Setting.{Setting}
+use Rattle.term_value.specs.Terms.{value_of, IsOver}
 use Rattle.term_value.specs.declared.term.Term.{Term}
 use Rattle.term_value.specs.declared.term.Term.TheVariants as t
 use Rattle.expr_eval.specs.declared.reason.Reason.{Reason}
@@ -39,6 +40,29 @@ IsComputed shown (Err (f.Raised reason)) due = Stops (Raise (reason_of shown rea
 IsComputed shown (Err f.Limit) due = Stops Limit ≡ due
 IsComputed shown (Err f.NoMemory) due = ⊥
 
+-- an answer of a call that may take memory
+abbrev pub IsEvaluated : {R : Type 0} → (R → List Bool) → Answer (Term R) (EvalFault R) → Result → Type 0
+IsEvaluated shown (Ok t) due = Gives (value_of shown t) ≡ due
+IsEvaluated shown (Err (f.Raised reason)) due = Stops (Raise (reason_of shown reason)) ≡ due
+IsEvaluated shown (Err f.Limit) due = Stops Limit ≡ due
+IsEvaluated shown (Err f.NoMemory) due = Unit {0}
+
+-- the references and atoms of a reason's term are known
+abbrev pub HasReason : {R : Type 0} → (R → Type 0) → (ℕ → Type 0) → Reason R → Type 0
+HasReason has knows (r.BadArgOf t) = IsOver has knows t
+HasReason has knows (r.BadMatch t) = IsOver has knows t
+HasReason has knows (r.CaseClause t) = IsOver has knows t
+HasReason has knows (r.BadGenerator t) = IsOver has knows t
+HasReason has knows (r.BadFilter t) = IsOver has knows t
+HasReason has knows (r.Other t) = IsOver has knows t
+HasReason has knows _ = Unit {0}
+
+-- and those of an answer's term
+abbrev pub HasAnswer : {R : Type 0} → (R → Type 0) → (ℕ → Type 0) → Answer (Term R) (EvalFault R) → Type 0
+HasAnswer has knows (Ok t) = IsOver has knows t
+HasAnswer has knows (Err (f.Raised reason)) = HasReason has knows reason
+HasAnswer has knows (Err _) = Unit {0}
+
 -- a number or a truth value, or a reason that has no term in it
 abbrev pub IsPlain : {R : Type 0} → Answer (Term R) (EvalFault R) → Type 0
 IsPlain (Ok (t.Int n)) = Unit {0}
@@ -48,3 +72,29 @@ IsPlain (Err (f.Raised r.BadArg)) = Unit {0}
 IsPlain (Err (f.Raised r.BadArith)) = Unit {0}
 IsPlain (Err (f.Raised _)) = ⊥
 IsPlain (Err _) = Unit {0}
+
+-- the same term, or want of memory or a bound
+abbrev pub IsAnswerOf : {R : Type 0} → Term R → Answer (Term R) (EvalFault R) → Type 0
+IsAnswerOf term (Ok t) = t ≡ term
+IsAnswerOf term (Err (f.Raised reason)) = ⊥
+IsAnswerOf term (Err _) = Unit {0}
+
+-- a term with no reference and no atom in it, or a reason that has no term
+abbrev pub IsEmpty : {R : Type 0} → Answer (Term R) (EvalFault R) → Type 0
+IsEmpty (Ok (t.Int n)) = Unit {0}
+IsEmpty (Ok (t.Pid p)) = Unit {0}
+IsEmpty (Ok _) = ⊥
+IsEmpty (Err (f.Raised r.BadArg)) = Unit {0}
+IsEmpty (Err (f.Raised _)) = ⊥
+IsEmpty (Err _) = Unit {0}
+
+abbrev pub KnowsTruths : (ℕ → Type 0) → Type 0
+KnowsTruths knows = knows atom.a_true × knows atom.a_false
+
+-- the atoms of a table of names
+abbrev pub IsNamed : List (List ℕ) → ℕ → Type 0
+IsNamed names atom = atom < length names
+
+-- what a built-in function looks up
+abbrev pub setting : List (List ℕ) → ℕ → Setting
+setting names pid = record { names = λ atom. slice_index_or names atom []; pid = pid }

@@ -1,2 +1,4 @@
 pub mod Answers
 pub mod Truths
+pub mod Kinds
+pub mod Ranges

@@ -86,14 +86,14 @@ fn prefixed_number(op: Prefix, number: i128) -> Arith
 }
 
 /// The atom `true` or `false`.
-fn truth_term<R>(holds: bool) -> Term<R>
+pub(crate) fn truth_term<R>(holds: bool) -> Term<R>
     ensures { result ≡ Term.Atom (truth_number holds) }
 {
     Term::Atom(if holds { TRUE } else { FALSE })
 }
 
 /// Whether a value is `true` or `false`; None where it is neither.
-fn truth<R>(value: &Term<R>) -> Option<bool>
+pub(crate) fn truth<R>(value: &Term<R>) -> Option<bool>
     ensures { (shown : R → List Bool) → result ≡ truth_of (value_of shown value.now) }
 {
     match value {
@@ -214,7 +214,7 @@ fn complement(number: i128) -> Arith
     Arith::Value(-1 - number)
 }
 
-fn number_term<R>(value: Arith) -> Answer<R>
+pub(crate) fn number_term<R>(value: Arith) -> Answer<R>
     ensures is { (shown : R → List Bool) → IsComputed shown result (arithmetic_result value) }
     ensures plain { IsPlain result }
 {

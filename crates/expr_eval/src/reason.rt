@@ -1,3 +1,5 @@
+ghost use Rattle.std.specs.Prelude.{◌≡◌, Err};
+
 use term_value::Term;
 
 /// Why an evaluation is ended (Erlang Reference Manual, "Errors and Error Handling", Exit Reasons).
@@ -34,3 +36,9 @@ pub enum EvalFault<R> {
 
 /// A value, or why there is none.
 pub type Answer<R> = Result<Term<R>, EvalFault<R>>;
+
+pub(crate) fn bad_argument<R>() -> Answer<R>
+    ensures { result ≡ Err (EvalFault.Raised Reason.BadArg) }
+{
+    Err(EvalFault::Raised(Reason::BadArg))
+}
