@@ -1,10 +1,12 @@
-//! Tests of bits, characters, terms and the texts of runs: what the definitions mean, row by row. The crates below keep no tests of their own.
+//! Tests of bits, characters, terms, built bitstrings and the texts of runs: what the definitions mean, row by row. The crates below keep no tests of their own.
 #![tactic(auto)]
 
 #[cfg(test)]
 mod bit_tests;
 #[cfg(test)]
 mod character_tests;
+#[cfg(test)]
+mod construction_tests;
 #[cfg(test)]
 mod order_tests;
 #[cfg(test)]
