@@ -2,7 +2,7 @@ use crate::saying::{forms_say, says};
 use std::test::Fail;
 
 /// Forms of a module `m` behind its attributes, from line 3 on, with what the check says.
-const FORMS: [(&str, &str); 122] = [
+const FORMS: &[(&str, &str)] = &[
     ("main() -> X.", "3:11: unbound variable"),
     ("main() -> _X.", "3:11: unbound variable"),
     ("main() -> X = X.", "3:15: unbound variable"),
@@ -278,7 +278,7 @@ const FORMS: [(&str, &str); 122] = [
 ];
 
 /// Whole texts with what the check says.
-const TEXTS: [(&str, &str); 24] = [
+const TEXTS: &[(&str, &str)] = &[
     ("-export([main/0]).\n-module(m).\nmain() -> ok.", "ok"),
     ("main() -> ok.\n-export([main/0]).\n-module(m).", "ok"),
     ("-module(m).%one\nmain()->ok.\n-export([main/0]).", "ok"),

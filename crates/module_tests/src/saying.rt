@@ -1,17 +1,26 @@
 use module_accept::{Refusal, accept};
-use std::alloc::Global;
+use std::alloc::{AllocError, Global};
 use std::process::Abort;
 use std::test::Fail;
 
-/// Compares what the check of a text says with what it has to say: `ok`, or the line of its first fault without its line feed.
+/// What the check of a text says: `ok`, or the line of its first fault.
+fn said(alloc: Global, text: &[u8]) -> Result<Vec<u8>, AllocError> {
+    match accept(alloc, text) {
+        Ok(_) => b"ok\n".to_vec(alloc),
+        Err(Refusal::Line(line)) => Ok(line),
+        Err(Refusal::Memory) => Err(AllocError),
+    }
+}
+
+/// Compares what the check of a text says with what it has to say, which is written without its line feed.
 pub fn says(rt: &impl Abort, alloc: Global, text: &str, wanted: &str) -> Result<(), Fail> {
-    let found = match accept(alloc, text.as_bytes()) {
-        Ok(_) => b"ok\n".to_vec(alloc)?,
-        Err(Refusal::Line(line)) => line,
-        Err(Refusal::Memory) => return Err(Fail::from("out of memory")),
-    };
+    let found = said(alloc, text.as_bytes())?;
     let line = format!(in alloc; "{wanted}\n")?;
-    assert_eq!(rt; found.as_slice(), line.as_bytes(), "{text}");
+    assert_eq!(rt;
+        found.as_slice(),
+        line.as_bytes(),
+        "{text} has to say {wanted}"
+    );
     Ok(())
 }
 

@@ -3,7 +3,7 @@ use std::alloc::{AllocError, Global};
 use std::test::Fail;
 
 /// Texts that spell no module, with what the check says.
-const TEXTS: [(&str, &str); 212] = [
+const TEXTS: &[(&str, &str)] = &[
     ("main() -> f(X) = 3.", "1:16: syntax"),
     ("main() -> {_,1}.", "1:16: syntax"),
     ("main() -> (X = 3).", "1:18: syntax"),
@@ -234,7 +234,7 @@ const TEXTS: [(&str, &str); 212] = [
 ];
 
 /// Texts of a front, a piece so many times and an end, with what the check says.
-const DEEP: [(&str, &str, u32, &str, &str); 50] = [
+const DEEP: &[(&str, &str, u32, &str, &str)] = &[
     ("main() -> ", "(", 64, "1", "1:76: syntax"),
     ("main() -> ", "(", 64, "(", "1:75: too deep"),
     ("main() -> ", "[", 64, "[", "1:75: too deep"),
@@ -394,7 +394,7 @@ fn the_first_wrong_token_is_told(rt: HostRuntime) -> Result<(), Fail> {
         says(&rt, alloc, text, wanted)?;
     }
     for (front, piece, times, end, wanted) in DEEP {
-        let text = repeated(alloc, front, piece, times, end)?;
+        let text = repeated(alloc, front, piece, *times, end)?;
         says(&rt, alloc, text.as_str(), wanted)?;
     }
     Ok(())
