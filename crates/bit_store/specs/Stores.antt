@@ -21,3 +21,7 @@ Refuses bits NoMemory = bits ≤ MAX_BITS
 -- a bitstring that is its own reference
 abbrev pub itself : List Bool → List Bool
 itself bits = bits
+
+-- an atom of any number: outside a table an atom's name is empty, so each has one
+abbrev pub AnyAtom : ℕ → Type 0
+AnyAtom atom = Unit {0}

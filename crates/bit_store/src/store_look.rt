@@ -1,4 +1,5 @@
-ghost use Rattle.std.specs.Prelude.{◌<◌, length, slice_index_or, []};
+ghost use Rattle.std.specs.Prelude.{slice_index_or, []};
+ghost use Rattle.bit_store.specs.Stores.{AnyAtom};
 
 use crate::store::Store;
 use bits_value::Bits;
@@ -9,7 +10,7 @@ use term_value::Look;
 #[derive(Drop)]
 pub struct StoreLook<'a, S> {
     pub store: &'a S,
-    /// The name of each atom, by its number.
+    /// The name of each atom, by its number. Outside the table a name is empty.
     pub names: &'a [Text],
 }
 
@@ -20,13 +21,16 @@ impl<R, S: Store<R>> Look<R> for StoreLook<'_, S> {
 
     ghost has = { λ look of. S.has look.store.now of };
 
-    ghost knows = { λ look atom. atom < length look.names.now };
+    ghost knows = { λ look. AnyAtom };
 
     fn bits<'b>(&'b self, of: &'b R) -> Bits<'b> {
         self.store.look(of)
     }
 
     fn atom(&self, number: u32) -> &[u8] {
-        self.names[number as usize].bytes()
+        match self.names.get(number as usize) {
+            Some(name) => name.bytes(),
+            None => b"",
+        }
     }
 }

@@ -1,5 +1,5 @@
 -- Which guard functions are left where a call has one or two arguments.
-use Rattle.std.proofs.Common.{◌≡◌, ℕ, Bool, true, false, List, Some, None, is_some, refl, ap, sym, subst, inl, inr}
+use Rattle.std.proofs.Common.{◌≡◌, ℕ, Bool, true, false, List, Some, None, is_some, refl, ap, sym}
 use Rattle.std.specs.declared.result.Result.{Result as Answer}
 use Rattle.std.specs.declared.result.Result.TheVariants.{Ok, Err}
 use Rattle.erl_syntax.specs.BuiltIns.{is_for_guards}
@@ -10,7 +10,7 @@ use Rattle.term_value.specs.Result.{Result, Gives, truth, truth_of}
 use Rattle.term_value.specs.Value.{Value}
 use Rattle.term_value.specs.declared.term.Term.{Term}
 use Rattle.term_value.specs.declared.term.Term.TheVariants as term
-use Rattle.expr_eval.specs.Answers.{IsComputed, IsEvaluated, IsPlain, IsEmpty, HasAnswer, KnowsTruths}
+use Rattle.expr_eval.specs.Answers.{IsComputed, IsEvaluated, IsPlain, IsEmpty, HasAnswer}
 use Rattle.expr_eval.specs.Kinds.{kind_test, is_measure}
 use Rattle.expr_eval.specs.declared.reason.EvalFault.{EvalFault}
 use Rattle.expr_eval.specs.declared.reason.EvalFault.TheVariants as f
@@ -90,31 +90,30 @@ kind_is b.ListToTuple v holds e = cc
 kind_is b.Reverse v holds e = cc
 
 module _ {R : Type 0} where
-  pub plain_known : (has : R → Type 0) (knows : ℕ → Type 0) (answer : Answer (Term R) (EvalFault R)) → KnowsTruths knows → IsPlain answer → HasAnswer has knows answer
-  plain_known has knows (Ok (term.Int n)) t p = tt
-  plain_known has knows (Ok (term.Atom a)) t (inl e) = subst knows (sym e) t.0
-  plain_known has knows (Ok (term.Atom a)) t (inr e) = subst knows (sym e) t.1
-  plain_known has knows (Ok (term.Pid n)) t p = absurd p
-  plain_known has knows (Ok (term.Tuple x)) t p = absurd p
-  plain_known has knows (Ok (term.List x)) t p = absurd p
-  plain_known has knows (Ok (term.Bits x)) t p = absurd p
-  plain_known has knows (Err (f.Raised r.BadArg)) t p = tt
-  plain_known has knows (Err (f.Raised r.BadArith)) t p = tt
-  plain_known has knows (Err (f.Raised reason)) t p = absurd p
-  plain_known has knows (Err f.Limit) t p = tt
-  plain_known has knows (Err f.NoMemory) t p = tt
+  pub plain_known : (has : R → Type 0) (answer : Answer (Term R) (EvalFault R)) → IsPlain answer → HasAnswer has answer
+  plain_known has (Ok (term.Int n)) p = tt
+  plain_known has (Ok (term.Atom a)) p = tt
+  plain_known has (Ok (term.Pid n)) p = absurd p
+  plain_known has (Ok (term.Tuple x)) p = absurd p
+  plain_known has (Ok (term.List x)) p = absurd p
+  plain_known has (Ok (term.Bits x)) p = absurd p
+  plain_known has (Err (f.Raised r.BadArg)) p = tt
+  plain_known has (Err (f.Raised r.BadArith)) p = tt
+  plain_known has (Err (f.Raised reason)) p = absurd p
+  plain_known has (Err f.Limit) p = tt
+  plain_known has (Err f.NoMemory) p = tt
 
-  pub empty_known : (has : R → Type 0) (knows : ℕ → Type 0) (answer : Answer (Term R) (EvalFault R)) → IsEmpty answer → HasAnswer has knows answer
-  empty_known has knows (Ok (term.Int n)) p = tt
-  empty_known has knows (Ok (term.Atom a)) p = absurd p
-  empty_known has knows (Ok (term.Pid n)) p = tt
-  empty_known has knows (Ok (term.Tuple x)) p = absurd p
-  empty_known has knows (Ok (term.List x)) p = absurd p
-  empty_known has knows (Ok (term.Bits x)) p = absurd p
-  empty_known has knows (Err (f.Raised r.BadArg)) p = tt
-  empty_known has knows (Err (f.Raised reason)) p = absurd p
-  empty_known has knows (Err f.Limit) p = tt
-  empty_known has knows (Err f.NoMemory) p = tt
+  pub empty_known : (has : R → Type 0) (answer : Answer (Term R) (EvalFault R)) → IsEmpty answer → HasAnswer has answer
+  empty_known has (Ok (term.Int n)) p = tt
+  empty_known has (Ok (term.Atom a)) p = absurd p
+  empty_known has (Ok (term.Pid n)) p = tt
+  empty_known has (Ok (term.Tuple x)) p = absurd p
+  empty_known has (Ok (term.List x)) p = absurd p
+  empty_known has (Ok (term.Bits x)) p = absurd p
+  empty_known has (Err (f.Raised r.BadArg)) p = tt
+  empty_known has (Err (f.Raised reason)) p = absurd p
+  empty_known has (Err f.Limit) p = tt
+  empty_known has (Err f.NoMemory) p = tt
 
   pub computed_evaluated : (shown : R → List Bool) (answer : Answer (Term R) (EvalFault R)) (due : Result) → IsComputed shown answer due → IsEvaluated shown answer due
   computed_evaluated shown (Ok t) due h = h

@@ -1,5 +1,5 @@
 -- What an evaluation's answer says of its definition (this project's own).
-use Rattle.std.specs.Prelude.{◌≡◌, ◌⊎◌, ◌<◌, ℕ, Bool, List, [], length, slice_index_or}
+use Rattle.std.specs.Prelude.{◌≡◌, ◌⊎◌, ℕ, Bool, List, [], slice_index_or}
 use Rattle.std.specs.declared.result.Result.{Result as Answer}
 use Rattle.std.specs.declared.result.Result.TheVariants.{Ok, Err}
 use Rattle.erl_syntax.specs.Atoms as atom
@@ -9,6 +9,7 @@ use Rattle.term_value.specs.Setting.{Setting}
 use Rattle.term_value.specs.Terms.{value_of, IsOver}
 use Rattle.term_value.specs.declared.term.Term.{Term}
 use Rattle.term_value.specs.declared.term.Term.TheVariants as t
+use Rattle.bit_store.specs.Stores.{AnyAtom}
 use Rattle.expr_eval.specs.declared.reason.Reason.{Reason}
 use Rattle.expr_eval.specs.declared.reason.Reason.TheVariants as r
 use Rattle.expr_eval.specs.declared.reason.EvalFault.{EvalFault}
@@ -47,21 +48,21 @@ IsEvaluated shown (Err (f.Raised reason)) due = Stops (Raise (reason_of shown re
 IsEvaluated shown (Err f.Limit) due = Stops Limit ≡ due
 IsEvaluated shown (Err f.NoMemory) due = Unit {0}
 
--- the references and atoms of a reason's term are known
-abbrev pub HasReason : {R : Type 0} → (R → Type 0) → (ℕ → Type 0) → Reason R → Type 0
-HasReason has knows (r.BadArgOf t) = IsOver has knows t
-HasReason has knows (r.BadMatch t) = IsOver has knows t
-HasReason has knows (r.CaseClause t) = IsOver has knows t
-HasReason has knows (r.BadGenerator t) = IsOver has knows t
-HasReason has knows (r.BadFilter t) = IsOver has knows t
-HasReason has knows (r.Other t) = IsOver has knows t
-HasReason has knows _ = Unit {0}
+-- the references of a reason's term are there
+abbrev pub HasReason : {R : Type 0} → (R → Type 0) → Reason R → Type 0
+HasReason has (r.BadArgOf t) = IsOver has AnyAtom t
+HasReason has (r.BadMatch t) = IsOver has AnyAtom t
+HasReason has (r.CaseClause t) = IsOver has AnyAtom t
+HasReason has (r.BadGenerator t) = IsOver has AnyAtom t
+HasReason has (r.BadFilter t) = IsOver has AnyAtom t
+HasReason has (r.Other t) = IsOver has AnyAtom t
+HasReason has _ = Unit {0}
 
 -- and those of an answer's term
-abbrev pub HasAnswer : {R : Type 0} → (R → Type 0) → (ℕ → Type 0) → Answer (Term R) (EvalFault R) → Type 0
-HasAnswer has knows (Ok t) = IsOver has knows t
-HasAnswer has knows (Err (f.Raised reason)) = HasReason has knows reason
-HasAnswer has knows (Err _) = Unit {0}
+abbrev pub HasAnswer : {R : Type 0} → (R → Type 0) → Answer (Term R) (EvalFault R) → Type 0
+HasAnswer has (Ok t) = IsOver has AnyAtom t
+HasAnswer has (Err (f.Raised reason)) = HasReason has reason
+HasAnswer has (Err _) = Unit {0}
 
 -- a number or a truth value, or a reason that has no term in it
 abbrev pub IsPlain : {R : Type 0} → Answer (Term R) (EvalFault R) → Type 0
@@ -79,7 +80,7 @@ IsAnswerOf term (Ok t) = t ≡ term
 IsAnswerOf term (Err (f.Raised reason)) = ⊥
 IsAnswerOf term (Err _) = Unit {0}
 
--- a term with no reference and no atom in it, or a reason that has no term
+-- a term with no reference in it, or a reason that has no term
 abbrev pub IsEmpty : {R : Type 0} → Answer (Term R) (EvalFault R) → Type 0
 IsEmpty (Ok (t.Int n)) = Unit {0}
 IsEmpty (Ok (t.Pid p)) = Unit {0}
@@ -87,13 +88,6 @@ IsEmpty (Ok _) = ⊥
 IsEmpty (Err (f.Raised r.BadArg)) = Unit {0}
 IsEmpty (Err (f.Raised _)) = ⊥
 IsEmpty (Err _) = Unit {0}
-
-abbrev pub KnowsTruths : (ℕ → Type 0) → Type 0
-KnowsTruths knows = knows atom.a_true × knows atom.a_false
-
--- the atoms of a table of names
-abbrev pub IsNamed : List (List ℕ) → ℕ → Type 0
-IsNamed names atom = atom < length names
 
 -- what a built-in function looks up
 abbrev pub setting : List (List ℕ) → ℕ → Setting

@@ -7,7 +7,8 @@ ghost use Rattle.term_value.specs.Primitives.{bounded_result};
 ghost use Rattle.term_value.specs.Seen.{AreKnown, meanings};
 ghost use Rattle.term_value.specs.Terms.{value_of, row, IsOver};
 ghost use Rattle.term_value.specs.Value.{none, more};
-ghost use Rattle.expr_eval.specs.Answers.{IsEvaluated, HasAnswer, IsEmpty, IsNamed, KnowsTruths, setting};
+ghost use Rattle.bit_store.specs.Stores.{AnyAtom};
+ghost use Rattle.expr_eval.specs.Answers.{IsEvaluated, HasAnswer, IsEmpty, setting};
 ghost use Rattle.expr_eval.specs.Kinds.{HasBits, is_measure as measures, kind_test};
 
 use crate::caller::Caller;
@@ -32,14 +33,13 @@ pub fn guard_built_in<R: Share + Drop, S: Store<R>>(
     args: &[Term<R>],
 ) -> Answer<R>
     requires guard { IsTrue (is_for_guards which) }
-    requires truths { KnowsTruths (IsNamed caller.now.names.now) }
-    requires known { AreKnown (S.has store.now) (IsNamed caller.now.names.now) (row args.now) }
+    requires known { AreKnown (S.has store.now) AnyAtom (row args.now) }
     ensures is { IsEvaluated (S.shown store.now) result (bounded_result (native (setting caller.now.names.now caller.now.pid) which (meanings (S.shown store.now) (row args.now)))) }
-    ensures known { HasAnswer (S.has store.now) (IsNamed caller.now.names.now) result }
+    ensures known { HasAnswer (S.has store.now) result }
 {
     match args {
         [] => of_none(caller, which),
-        [value] => of_one(caller, store, which, value),
+        [value] => of_one(store, which, value),
         [first, second] => of_two(caller, store, which, first, second),
         [first, second, third] => of_three(store, which, first, second, third),
         _ => bad_argument(),
@@ -56,23 +56,17 @@ fn of_none<R>(caller: &Caller<'_>, which: BuiltIn) -> Answer<R>
     }
 }
 
-fn of_one<R: Share + Drop, S: Store<R>>(
-    caller: &Caller<'_>,
-    store: &S,
-    which: BuiltIn,
-    value: &Term<R>,
-) -> Answer<R>
+fn of_one<R: Share + Drop, S: Store<R>>(store: &S, which: BuiltIn, value: &Term<R>) -> Answer<R>
     requires guard { IsTrue (is_for_guards which) }
-    requires truths { KnowsTruths (IsNamed caller.now.names.now) }
-    requires known { IsOver (S.has store.now) (IsNamed caller.now.names.now) value.now }
+    requires known { IsOver (S.has store.now) AnyAtom value.now }
     ensures is { IsEvaluated (S.shown store.now) result (bounded_result (native_1 which (value_of (S.shown store.now) value.now))) }
-    ensures known { HasAnswer (S.has store.now) (IsNamed caller.now.names.now) result }
+    ensures known { HasAnswer (S.has store.now) result }
 {
     match is_of_kind(store, which, value) {
         Some(holds) => Ok(truth_term(holds)),
         None => {
             if is_measure(which) {
-                measure(caller, store, which, value)
+                measure(store, which, value)
             } else {
                 bad_argument()
             }
@@ -95,25 +89,19 @@ fn is_measure(which: BuiltIn) -> bool
     }
 }
 
-fn measure<R: Share + Drop, S: Store<R>>(
-    caller: &Caller<'_>,
-    store: &S,
-    which: BuiltIn,
-    value: &Term<R>,
-) -> Answer<R>
+fn measure<R: Share + Drop, S: Store<R>>(store: &S, which: BuiltIn, value: &Term<R>) -> Answer<R>
     requires measure { IsTrue (measures which) }
-    requires truths { KnowsTruths (IsNamed caller.now.names.now) }
-    requires known { IsOver (S.has store.now) (IsNamed caller.now.names.now) value.now }
+    requires known { IsOver (S.has store.now) AnyAtom value.now }
     ensures is { IsEvaluated (S.shown store.now) result (bounded_result (native_1 which (value_of (S.shown store.now) value.now))) }
-    ensures known { HasAnswer (S.has store.now) (IsNamed caller.now.names.now) result }
+    ensures known { HasAnswer (S.has store.now) result }
 {
     match which {
         BuiltIn::BitSize => bit_size(store, value),
         BuiltIn::ByteSize => byte_size(store, value),
         BuiltIn::TupleSize => tuple_size(value),
         BuiltIn::Length => list_length(value),
-        BuiltIn::Hd => head(caller, store, value),
-        BuiltIn::Tl => tail(caller, store, value),
+        BuiltIn::Hd => head(store, value),
+        BuiltIn::Tl => tail(store, value),
         BuiltIn::Abs => absolute(value),
         _ => bad_argument(),
     }
@@ -127,13 +115,13 @@ fn of_two<R: Share + Drop, S: Store<R>>(
     second: &Term<R>,
 ) -> Answer<R>
     requires guard { IsTrue (is_for_guards which) }
-    requires first { IsOver (S.has store.now) (IsNamed caller.now.names.now) first.now }
-    requires second { IsOver (S.has store.now) (IsNamed caller.now.names.now) second.now }
+    requires first { IsOver (S.has store.now) AnyAtom first.now }
+    requires second { IsOver (S.has store.now) AnyAtom second.now }
     ensures is { IsEvaluated (S.shown store.now) result (bounded_result (native_2 (setting caller.now.names.now caller.now.pid) which (value_of (S.shown store.now) first.now) (value_of (S.shown store.now) second.now))) }
-    ensures known { HasAnswer (S.has store.now) (IsNamed caller.now.names.now) result }
+    ensures known { HasAnswer (S.has store.now) result }
 {
     match which {
-        BuiltIn::Element => element(caller, store, first, second),
+        BuiltIn::Element => element(store, first, second),
         BuiltIn::Max => greater(caller, store, first, second),
         BuiltIn::Min => smaller(caller, store, first, second),
         BuiltIn::BinaryPartOf => binary_part_of(store, first, second),
@@ -150,7 +138,7 @@ fn of_three<R, S: Store<R>>(
 ) -> Answer<R>
     requires { HasBits (S.has store.now) first.now }
     ensures is { (names : List (List ℕ)) (pid : ℕ) → IsEvaluated (S.shown store.now) result (bounded_result (native (setting names pid) which (more (value_of (S.shown store.now) first.now) (more (value_of (S.shown store.now) second.now) (more (value_of (S.shown store.now) third.now) none))))) }
-    ensures known { (names : List (List ℕ)) → HasAnswer (S.has store.now) (IsNamed names) result }
+    ensures known { HasAnswer (S.has store.now) result }
 {
     match which {
         BuiltIn::BinaryPart => binary_part(store, first, second, third),

@@ -10,7 +10,8 @@ ghost use Rattle.term_value.specs.Primitives.{bounded_result};
 ghost use Rattle.term_value.specs.Order.{order as order_of};
 ghost use Rattle.term_value.specs.Result.{Gives};
 ghost use Rattle.term_value.specs.Terms.{value_of, row, IsOver};
-ghost use Rattle.expr_eval.specs.Answers.{IsEvaluated, HasAnswer, IsAnswerOf, IsNamed, setting};
+ghost use Rattle.bit_store.specs.Stores.{AnyAtom};
+ghost use Rattle.expr_eval.specs.Answers.{IsEvaluated, HasAnswer, IsAnswerOf, setting};
 
 use crate::caller::Caller;
 use crate::reason::{Answer, EvalFault, bad_argument};
@@ -20,14 +21,10 @@ use std::cmp::Ordering;
 use term_value::{Term, compare, is_bounded};
 
 /// An argument's item or the argument itself, shared; Limit where it is not within the bounds.
-pub(crate) fn shared<R: Share + Drop, S: Store<R>>(
-    caller: &Caller<'_>,
-    store: &S,
-    term: &Term<R>,
-) -> Answer<R>
-    requires { IsOver (S.has store.now) (IsNamed caller.now.names.now) term.now }
+pub(crate) fn shared<R: Share + Drop, S: Store<R>>(store: &S, term: &Term<R>) -> Answer<R>
+    requires { IsOver (S.has store.now) AnyAtom term.now }
     ensures is { IsEvaluated (S.shown store.now) result (within (value_of (S.shown store.now) term.now)) }
-    ensures known { HasAnswer (S.has store.now) (IsNamed caller.now.names.now) result }
+    ensures known { HasAnswer (S.has store.now) result }
 {
     match term {
         Term::Int(number) => Ok(Term::Int(*number)),
@@ -55,37 +52,31 @@ fn shared_within<R: Share + Drop>(term: &Term<R>) -> Answer<R>
 
 /// `element/2`, counted from 1.
 pub(crate) fn element<R: Share + Drop, S: Store<R>>(
-    caller: &Caller<'_>,
     store: &S,
     place: &Term<R>,
     tuple: &Term<R>,
 ) -> Answer<R>
-    requires { IsOver (S.has store.now) (IsNamed caller.now.names.now) tuple.now }
+    requires { IsOver (S.has store.now) AnyAtom tuple.now }
     ensures is { IsEvaluated (S.shown store.now) result (bounded_result (element_of (value_of (S.shown store.now) place.now) (value_of (S.shown store.now) tuple.now))) }
-    ensures known { HasAnswer (S.has store.now) (IsNamed caller.now.names.now) result }
+    ensures known { HasAnswer (S.has store.now) result }
 {
     match place {
         Term::Int(place) => match tuple {
-            Term::Tuple(items) => item_at(caller, store, items.get().items(), *place),
+            Term::Tuple(items) => item_at(store, items.get().items(), *place),
             _ => bad_argument(),
         },
         _ => bad_argument(),
     }
 }
 
-fn item_at<R: Share + Drop, S: Store<R>>(
-    caller: &Caller<'_>,
-    store: &S,
-    items: &[Term<R>],
-    place: i128,
-) -> Answer<R>
-    requires { AreKnown (S.has store.now) (IsNamed caller.now.names.now) (row items.now) }
+fn item_at<R: Share + Drop, S: Store<R>>(store: &S, items: &[Term<R>], place: i128) -> Answer<R>
+    requires { AreKnown (S.has store.now) AnyAtom (row items.now) }
     ensures is { IsEvaluated (S.shown store.now) result (bounded_result (element_of (VInt place) (VTuple (meanings (S.shown store.now) (row items.now))))) }
-    ensures known { HasAnswer (S.has store.now) (IsNamed caller.now.names.now) result }
+    ensures known { HasAnswer (S.has store.now) result }
 {
     match index_of(place) {
         Some(index) => match items.get(index) {
-            Some(item) => shared(caller, store, item),
+            Some(item) => shared(store, item),
             None => bad_argument(),
         },
         None => bad_argument(),
@@ -107,18 +98,14 @@ fn index_of(place: i128) -> Option<usize>
 }
 
 /// `hd/1`
-pub(crate) fn head<R: Share + Drop, S: Store<R>>(
-    caller: &Caller<'_>,
-    store: &S,
-    list: &Term<R>,
-) -> Answer<R>
-    requires { IsOver (S.has store.now) (IsNamed caller.now.names.now) list.now }
+pub(crate) fn head<R: Share + Drop, S: Store<R>>(store: &S, list: &Term<R>) -> Answer<R>
+    requires { IsOver (S.has store.now) AnyAtom list.now }
     ensures is { IsEvaluated (S.shown store.now) result (bounded_result (head_of (value_of (S.shown store.now) list.now))) }
-    ensures known { HasAnswer (S.has store.now) (IsNamed caller.now.names.now) result }
+    ensures known { HasAnswer (S.has store.now) result }
 {
     match list {
         Term::List(items) => match items.split() {
-            Some((item, _)) => shared(caller, store, item),
+            Some((item, _)) => shared(store, item),
             None => bad_argument(),
         },
         _ => bad_argument(),
@@ -126,14 +113,10 @@ pub(crate) fn head<R: Share + Drop, S: Store<R>>(
 }
 
 /// `tl/1`
-pub(crate) fn tail<R: Share + Drop, S: Store<R>>(
-    caller: &Caller<'_>,
-    store: &S,
-    list: &Term<R>,
-) -> Answer<R>
-    requires { IsOver (S.has store.now) (IsNamed caller.now.names.now) list.now }
+pub(crate) fn tail<R: Share + Drop, S: Store<R>>(store: &S, list: &Term<R>) -> Answer<R>
+    requires { IsOver (S.has store.now) AnyAtom list.now }
     ensures is { IsEvaluated (S.shown store.now) result (bounded_result (tail_of (value_of (S.shown store.now) list.now))) }
-    ensures known { HasAnswer (S.has store.now) (IsNamed caller.now.names.now) result }
+    ensures known { HasAnswer (S.has store.now) result }
 {
     match list {
         Term::List(items) => match items.split() {
@@ -166,14 +149,14 @@ pub(crate) fn greater<R: Share + Drop, S: Store<R>>(
     left: &Term<R>,
     right: &Term<R>,
 ) -> Answer<R>
-    requires left { IsOver (S.has store.now) (IsNamed caller.now.names.now) left.now }
-    requires right { IsOver (S.has store.now) (IsNamed caller.now.names.now) right.now }
+    requires left { IsOver (S.has store.now) AnyAtom left.now }
+    requires right { IsOver (S.has store.now) AnyAtom right.now }
     ensures is { IsEvaluated (S.shown store.now) result (bounded_result (Gives (greater_of (setting caller.now.names.now caller.now.pid) (value_of (S.shown store.now) left.now) (value_of (S.shown store.now) right.now)))) }
-    ensures known { HasAnswer (S.has store.now) (IsNamed caller.now.names.now) result }
+    ensures known { HasAnswer (S.has store.now) result }
 {
     match order(caller, store, left, right) {
-        Ordering::Less => shared(caller, store, right),
-        _ => shared(caller, store, left),
+        Ordering::Less => shared(store, right),
+        _ => shared(store, left),
     }
 }
 
@@ -184,14 +167,14 @@ pub(crate) fn smaller<R: Share + Drop, S: Store<R>>(
     left: &Term<R>,
     right: &Term<R>,
 ) -> Answer<R>
-    requires left { IsOver (S.has store.now) (IsNamed caller.now.names.now) left.now }
-    requires right { IsOver (S.has store.now) (IsNamed caller.now.names.now) right.now }
+    requires left { IsOver (S.has store.now) AnyAtom left.now }
+    requires right { IsOver (S.has store.now) AnyAtom right.now }
     ensures is { IsEvaluated (S.shown store.now) result (bounded_result (Gives (smaller_of (setting caller.now.names.now caller.now.pid) (value_of (S.shown store.now) left.now) (value_of (S.shown store.now) right.now)))) }
-    ensures known { HasAnswer (S.has store.now) (IsNamed caller.now.names.now) result }
+    ensures known { HasAnswer (S.has store.now) result }
 {
     match order(caller, store, left, right) {
-        Ordering::Greater => shared(caller, store, right),
-        _ => shared(caller, store, left),
+        Ordering::Greater => shared(store, right),
+        _ => shared(store, left),
     }
 }
 
@@ -201,8 +184,8 @@ fn order<R, S: Store<R>>(
     left: &Term<R>,
     right: &Term<R>,
 ) -> Ordering
-    requires left { IsOver (S.has store.now) (IsNamed caller.now.names.now) left.now }
-    requires right { IsOver (S.has store.now) (IsNamed caller.now.names.now) right.now }
+    requires left { IsOver (S.has store.now) AnyAtom left.now }
+    requires right { IsOver (S.has store.now) AnyAtom right.now }
     ensures { result ≡ order_of (setting caller.now.names.now caller.now.pid).names (value_of (S.shown store.now) left.now) (value_of (S.shown store.now) right.now) }
 {
     let look = StoreLook {

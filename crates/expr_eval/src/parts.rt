@@ -1,12 +1,12 @@
 //! Parts of binaries, for which no bit is moved.
 
-ghost use Rattle.std.specs.Prelude.{◌≡◌, ◌+◌, ◌*◌, ◌≤◌, Bool, List, ℕ, length, take, drop};
+ghost use Rattle.std.specs.Prelude.{◌≡◌, ◌+◌, ◌*◌, ◌≤◌, Bool, List, length, take, drop};
 ghost use Rattle.term_value.specs.BuiltIns.{binary_part as part_of, binary_part_of as pair_part_of};
 ghost use Rattle.term_value.specs.Primitives.{bounded_result};
 ghost use Rattle.term_value.specs.Result.{Gives};
 ghost use Rattle.term_value.specs.Value.{VBits};
 ghost use Rattle.term_value.specs.Terms.{value_of};
-ghost use Rattle.expr_eval.specs.Answers.{IsEvaluated, HasAnswer, IsNamed};
+ghost use Rattle.expr_eval.specs.Answers.{IsEvaluated, HasAnswer};
 ghost use Rattle.expr_eval.specs.Kinds.{HasBits};
 ghost use Rattle.expr_eval.specs.Ranges.{range_of, wanted};
 
@@ -30,7 +30,7 @@ pub(crate) fn binary_part<R, S: Store<R>>(
 ) -> Answer<R>
     requires { HasBits (S.has store.now) binary.now }
     ensures is { IsEvaluated (S.shown store.now) result (bounded_result (part_of (value_of (S.shown store.now) binary.now) (value_of (S.shown store.now) start.now) (value_of (S.shown store.now) len.now))) }
-    ensures known { (names : List (List ℕ)) → HasAnswer (S.has store.now) (IsNamed names) result }
+    ensures known { HasAnswer (S.has store.now) result }
 {
     match binary {
         Term::Bits(of) => match wanted_range(store.look(of).len(), start, len) {
@@ -49,7 +49,7 @@ pub(crate) fn binary_part_of<R, S: Store<R>>(
 ) -> Answer<R>
     requires { HasBits (S.has store.now) binary.now }
     ensures is { IsEvaluated (S.shown store.now) result (bounded_result (pair_part_of (value_of (S.shown store.now) binary.now) (value_of (S.shown store.now) range.now))) }
-    ensures known { (names : List (List ℕ)) → HasAnswer (S.has store.now) (IsNamed names) result }
+    ensures known { HasAnswer (S.has store.now) result }
 {
     match range {
         Term::Tuple(items) => match items.get().items() {
@@ -66,7 +66,7 @@ fn cut<R, S: Store<R>>(store: &S, of: &R, range: ByteRange) -> Answer<R>
     requires valid { S.has store.now of.now }
     requires inside { 8 * range.first + 8 * range.count ≤ length (S.shown store.now of.now) }
     ensures is { IsEvaluated (S.shown store.now) result (bounded_result (Gives (VBits (take (8 * range.count) (drop (8 * range.first) (S.shown store.now of.now)))))) }
-    ensures known { (names : List (List ℕ)) → HasAnswer (S.has store.now) (IsNamed names) result }
+    ensures known { HasAnswer (S.has store.now) result }
 {
     match store.part(of, 8 * range.first, 8 * range.count) {
         Ok(part) => Ok(Term::Bits(part)),

@@ -16,9 +16,6 @@ returns-in-len2-clause-is g c =
     evaluated shown c.of_two.result (bounded_result (native_2 s c.args.which (value_of shown c.first-item.result) (value_of shown c.second-item.result))) (bounded_result (native s c.args.which (meanings shown (row c.args.args.now))))
     (ap bounded_result (of_two_is shown s c.args.which c.args.args.now c.first-item.result c.second-item.result two c.first-item.is c.second-item.is)) c.of_two.ensures.is
 
-pub returns-in-len3-clause-known : goal.returns-in-len3-clause-known
-returns-in-len3-clause-known g c = c.of_three.ensures.known c.args.caller.now.names.now
-
 pub returns-in_default-clause-is : goal.returns-in_default-clause-is
 returns-in_default-clause-is g c =
     let shown = g.S.Store.shown c.args.store.now in

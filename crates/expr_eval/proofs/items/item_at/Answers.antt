@@ -8,7 +8,7 @@ use Rattle.term_value.specs.Seen.{meanings}
 use Rattle.term_value.specs.Terms.{value_of, row, IsOver}
 use Rattle.term_value.specs.Value.{VInt, VTuple}
 use Rattle.term_value.specs.declared.term.Term.{Term}
-use Rattle.expr_eval.specs.Answers.{IsNamed}
+use Rattle.bit_store.specs.Stores.{AnyAtom}
 use Rattle.expr_eval.proofs.Evaluations.{evaluated, refused}
 use Rattle.expr_eval.proofs.RowItems.{item_of, no_item, known_item, element_is, element_past, element_nowhere}
 use Rattle.expr_eval.proofs.items.item_at.Goals as goal
@@ -17,8 +17,8 @@ pub shared-requires : goal.shared-requires
 shared-requires g c =
     let look = c.in-Some-get.ensures.lookup in
     let has = g.S.Store.has c.args.store.now in
-    let P : Term g.row.R.Denot → Type 0 = λ t. IsOver has (IsNamed c.args.caller.now.names.now) t in
-    subst P (sym look.1) (known_item has (IsNamed c.args.caller.now.names.now) c.args.items.now c.in-Some.index c.in-Some-get.item.now look.3.0 c.requires)
+    let P : Term g.row.R.Denot → Type 0 = λ t. IsOver has AnyAtom t in
+    subst P (sym look.1) (known_item has AnyAtom c.args.items.now c.in-Some.index c.in-Some-get.item.now look.3.0 c.requires)
 
 pub returns-in-Some-get-clause-is : goal.returns-in-Some-get-clause-is
 returns-in-Some-get-clause-is g c =
