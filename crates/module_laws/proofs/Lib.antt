@@ -1,0 +1,7 @@
+pub mod Characters
+pub mod FormLiterals
+pub mod ModuleLiterals
+pub mod ReadLiterals
+pub mod RisingPlaces
+pub mod SpeltLiterals
+pub mod Words
