@@ -1,5 +1,5 @@
 -- Which guard functions are left where a call has one or two arguments.
-use Rattle.std.proofs.Common.{◌≡◌, ℕ, Bool, true, false, List, Some, None, is_some, refl, ap, sym}
+use Rattle.std.proofs.Common.{◌≡◌, Bool, true, false, List, Some, None, is_some, refl, ap, sym, subst}
 use Rattle.std.specs.declared.result.Result.{Result as Answer}
 use Rattle.std.specs.declared.result.Result.TheVariants.{Ok, Err}
 use Rattle.erl_syntax.specs.BuiltIns.{is_for_guards}
@@ -7,10 +7,12 @@ use Rattle.erl_syntax.specs.declared.built_in.BuiltIn.{BuiltIn}
 use Rattle.erl_syntax.specs.declared.built_in.BuiltIn.TheVariants as b
 use Rattle.term_value.specs.BuiltIns.{badarg, native_1, is_integer, is_atom, is_pid, is_tuple, is_list, is_bitstring, is_binary}
 use Rattle.term_value.specs.Result.{Result, Gives, truth, truth_of}
+use Rattle.term_value.specs.Seen.{Seen, IsKnown}
 use Rattle.term_value.specs.Value.{Value}
+use Rattle.bit_store.specs.Stores.{AnyAtom}
 use Rattle.term_value.specs.declared.term.Term.{Term}
 use Rattle.term_value.specs.declared.term.Term.TheVariants as term
-use Rattle.expr_eval.specs.Answers.{IsComputed, IsEvaluated, IsPlain, IsEmpty, HasAnswer}
+use Rattle.expr_eval.specs.Answers.{IsComputed, IsEvaluated, IsPlain, IsEmpty, HasAnswer, IsAnswerWith}
 use Rattle.expr_eval.specs.Kinds.{kind_test, is_measure}
 use Rattle.expr_eval.specs.declared.reason.EvalFault.{EvalFault}
 use Rattle.expr_eval.specs.declared.reason.EvalFault.TheVariants as f
@@ -114,6 +116,13 @@ module _ {R : Type 0} where
   empty_known has (Err (f.Raised reason)) p = absurd p
   empty_known has (Err f.Limit) p = tt
   empty_known has (Err f.NoMemory) p = tt
+
+  -- a term that is seen so has the references of what is seen
+  pub seen_known : (has : R → Type 0) (s : Seen R) (answer : Answer (Term R) (EvalFault R)) → IsAnswerWith s answer → IsKnown has AnyAtom s → HasAnswer has answer
+  seen_known has s (Ok t) e h = subst (IsKnown has AnyAtom) (sym e) h
+  seen_known has s (Err (f.Raised reason)) e h = absurd e
+  seen_known has s (Err f.Limit) e h = tt
+  seen_known has s (Err f.NoMemory) e h = tt
 
   pub computed_evaluated : (shown : R → List Bool) (answer : Answer (Term R) (EvalFault R)) (due : Result) → IsComputed shown answer due → IsEvaluated shown answer due
   computed_evaluated shown (Ok t) due h = h

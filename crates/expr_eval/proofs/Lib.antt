@@ -5,3 +5,8 @@ pub mod Evaluations
 pub mod ByteRanges
 pub mod GuardCalls
 pub mod ArgumentNumbers
+pub mod Reversal
+pub mod ByteTerms
+pub mod DecimalText
+pub mod Joining
+pub mod BodyCalls

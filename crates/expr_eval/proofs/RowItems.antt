@@ -1,12 +1,13 @@
 -- Items of tuples and lists, by their places.
-use Rattle.std.proofs.Common.{◌≡◌, ℕ, ℤ, pos, negsuc, zero, suc, ◌+◌, ◌^◌, ◌<◌, ◌≤◌, Bool, List, [], ◌∷◌, length, get_or, slice_get, Some, None, refl, ap, sym, ◌∙◌, inl, inr, add-one, arith}
+use Rattle.std.proofs.Common.{◌≡◌, ℕ, ℤ, pos, negsuc, zero, suc, ◌+◌, ◌^◌, ◌<◌, ◌≤◌, Bool, List, [], ◌∷◌, ◌++◌, length, get_or, slice_get, Some, None, refl, ap, sym, ◌∙◌, inl, inr, add-one, arith}
 use Rattle.std.proofs.lemmas.Bool.{cases_lt}
 use Rattle.term_value.specs.BuiltIns.{element, badarg, gives_or_badarg}
 use Rattle.term_value.specs.Result.{Gives}
 use Rattle.term_value.specs.Value.{Value, Values, VInt, VTuple, items}
-use Rattle.term_value.specs.Seen.{meanings, AreKnown}
-use Rattle.term_value.specs.Terms.{value_of, row, IsOver}
+use Rattle.term_value.specs.Seen.{Row, end, then, meanings, AreKnown}
+use Rattle.term_value.specs.Terms.{value_of, seen, row, IsOver}
 use Rattle.term_value.specs.declared.term.Term.{Term}
+use Rattle.term_value.proofs.RowLemmas.{onto, onto_end, onto_last}
 
 module _ {R : Type 0} where
   pub item_of : (shown : R → List Bool) (ts : List (Term R)) (i : ℕ) (d : Term R) → i < length ts → slice_get (items (meanings shown (row ts))) i ≡ Some (value_of shown (get_or ts i d))
@@ -23,6 +24,14 @@ module _ {R : Type 0} where
   known_item has knows [] i d h k = absurd (omega arith)
   known_item has knows (t ∷ ts) zero d h k = k.0
   known_item has knows (t ∷ ts) (suc i) d h k = known_item has knows ts i d (omega arith) k.1
+
+-- ---- items that are taken from the front of a list
+module _ {R : Type 0} where
+  pub onto_nothing : (ts : List (Term R)) (r : Row R) → r ≡ end → onto ts r ≡ row ts
+  onto_nothing ts r e = ap (onto ts) e ∙ onto_end ts
+
+  pub onto_next : (ts : List (Term R)) (t : Term R) (r rest : Row R) → r ≡ then (seen t) rest → onto (ts ++ t ∷ []) rest ≡ onto ts r
+  onto_next ts t r rest e = onto_last ts t rest ∙ ap (onto ts) (sym e)
 
 -- ---- the item at a place that is counted from 1
 pub element_is : (vs : Values) (place : ℤ) (i : ℕ) (v : Value) → place ≡ pos (i + 1) → slice_get (items vs) i ≡ Some v → element (VInt place) (VTuple vs) ≡ Gives v

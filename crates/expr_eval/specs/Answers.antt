@@ -1,12 +1,13 @@
 -- What an evaluation's answer says of its definition (this project's own).
-use Rattle.std.specs.Prelude.{◌≡◌, ◌⊎◌, ℕ, Bool, List, [], slice_index_or}
+use Rattle.std.specs.Prelude.{◌≡◌, ◌⊎◌, ℕ, Bool, List, [], length, slice_index_or}
 use Rattle.std.specs.declared.result.Result.{Result as Answer}
 use Rattle.std.specs.declared.result.Result.TheVariants.{Ok, Err}
 use Rattle.erl_syntax.specs.Atoms as atom
 use Rattle.term_value.specs.Value.{Value, VAtom, VTuple, none, more}
 use Rattle.term_value.specs.Result.{Result, Gives, Stops, Raise, Limit}
+use Rattle.term_value.specs.Seen.{Seen}
 use Rattle.term_value.specs.Setting.{Setting}
-use Rattle.term_value.specs.Terms.{value_of, IsOver}
+use Rattle.term_value.specs.Terms.{value_of, seen, IsOver}
 use Rattle.term_value.specs.declared.term.Term.{Term}
 use Rattle.term_value.specs.declared.term.Term.TheVariants as t
 use Rattle.bit_store.specs.Stores.{AnyAtom}
@@ -80,6 +81,12 @@ IsAnswerOf term (Ok t) = t ≡ term
 IsAnswerOf term (Err (f.Raised reason)) = ⊥
 IsAnswerOf term (Err _) = Unit {0}
 
+-- a term that is seen so, or want of memory or a bound
+abbrev pub IsAnswerWith : {R : Type 0} → Seen R → Answer (Term R) (EvalFault R) → Type 0
+IsAnswerWith s (Ok t) = seen t ≡ s
+IsAnswerWith s (Err (f.Raised reason)) = ⊥
+IsAnswerWith s (Err _) = Unit {0}
+
 -- a term with no reference in it, or a reason that has no term
 abbrev pub IsEmpty : {R : Type 0} → Answer (Term R) (EvalFault R) → Type 0
 IsEmpty (Ok (t.Int n)) = Unit {0}
@@ -92,3 +99,8 @@ IsEmpty (Err _) = Unit {0}
 -- what a built-in function looks up
 abbrev pub setting : List (List ℕ) → ℕ → Setting
 setting names pid = record { names = λ atom. slice_index_or names atom []; pid = pid }
+
+-- how many bits a bitstring has; a term of another kind has none
+abbrev pub bit_count : {R : Type 0} → (R → List Bool) → Term R → ℕ
+bit_count shown (t.Bits of) = length (shown of)
+bit_count shown _ = 0

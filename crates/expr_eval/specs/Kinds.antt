@@ -1,7 +1,7 @@
 -- The built-in functions that test a value's kind (Erlang Reference Manual, "Expressions", Guard Expressions).
 use Rattle.std.specs.Prelude.{Bool, true, false, Option, Some, None, is_some}
 use Rattle.erl_syntax.specs.declared.built_in.BuiltIn.{BuiltIn}
-use Rattle.erl_syntax.specs.declared.built_in.BuiltIn.TheVariants.{IsInteger, IsNumber, IsAtom, IsBoolean, IsPid, IsTuple, IsList, IsBinary, IsBitstring, BitSize, ByteSize, TupleSize, Length, Hd, Tl, Abs}
+use Rattle.erl_syntax.specs.declared.built_in.BuiltIn.TheVariants.{IsInteger, IsNumber, IsAtom, IsBoolean, IsPid, IsTuple, IsList, IsBinary, IsBitstring, BitSize, ByteSize, TupleSize, Length, Hd, Tl, Abs, ListToBinary, IntegerToBinary}
 use Rattle.term_value.specs.BuiltIns.{is_integer, is_atom, is_pid, is_tuple, is_list, is_bitstring, is_binary}
 use Rattle.term_value.specs.Result.{truth_of}
 use Rattle.term_value.specs.Value.{Value}
@@ -31,6 +31,12 @@ is_measure Hd = true
 is_measure Tl = true
 is_measure Abs = true
 is_measure _ = false
+
+-- the functions of one argument that make a new bitstring
+abbrev pub writes : BuiltIn → Bool
+writes ListToBinary = true
+writes IntegerToBinary = true
+writes _ = false
 
 -- the reference is there, where the term is a bitstring
 abbrev pub HasBits : {R : Type 0} → (R → Type 0) → Term R → Type 0
