@@ -1,1 +1,3 @@
 pub mod BoundedRows
+pub mod Collects
+pub mod NextRow
