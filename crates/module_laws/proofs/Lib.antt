@@ -1,7 +1,14 @@
 pub mod Characters
+pub mod FormGuards
 pub mod FormLiterals
+pub mod ModuleGuards
 pub mod ModuleLiterals
+pub mod ModuleVariables
+pub mod ReadGuards
 pub mod ReadLiterals
 pub mod RisingPlaces
+pub mod SpeltGuards
 pub mod SpeltLiterals
+pub mod SpeltVariables
+pub mod VariableForms
 pub mod Words

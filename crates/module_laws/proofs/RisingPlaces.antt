@@ -2,6 +2,7 @@
 use Rattle.std.proofs.Common.{◌≡◌, ℕ, zero, suc, ◌+◌, ◌-◌, ◌<◌, ◌≤◌, Bool, true, false, cond, ◌⊎◌, inl, inr, List, [], ◌∷◌, ◌++◌, length, take, drop, map, get_or, All, Option, Some, None, IfSome, refl, sym, ap, subst, arith, ◌∙◌, zero-add, add-one}
 use Rattle.std.specs.Prelude.{nat_lt, nat_le, ◌&&◌, ◌||◌, ◌==◌, slice_index, if◌then◌else◌}
 use Rattle.std.specs.Char.{is_ascii_alphabetic, digit_value}
+use Rattle.std.specs.Int.{is_in_range}
 use Rattle.std.specs.List.{find, list_all, AllByRecursion}
 use Rattle.std.proofs.Math.Seq.{drop-cons}
 use Rattle.std.proofs.lemmas.Bool.Decides.{nat_tests}
@@ -47,7 +48,7 @@ either true y e = inl refl
 either false y e = inr e
 
 letter_plain : (b : ℕ) → is_ascii_alphabetic b ≡ true → b < 128
-letter_plain b e = elim (either _ _ e) [ inl h ↦ omega (arith, in_range b 65 90 h) | inr h ↦ omega (arith, in_range b 97 122 h) ]
+letter_plain b e = elim (either (is_in_range 65 90 b) (is_in_range 97 122 b) e) [ inl h ↦ omega (arith, in_range b 65 90 h) | inr h ↦ omega (arith, in_range b 97 122 h) ]
 
 name_plain : (b : ℕ) → begins_name b ≡ true → b < 128
 name_plain b e = elim (either (is_ascii_alphabetic b) (b == 95) e) [ inl h ↦ letter_plain b h | inr h ↦ omega (arith, is_byte b 95 h) ]

@@ -1,2 +1,4 @@
+pub mod GuardForms
 pub mod Literals
 pub mod Places
+pub mod Variables

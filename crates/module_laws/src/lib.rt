@@ -1,8 +1,10 @@
 //! Laws of modules that were read from a text.
 #![tactic(auto)]
 
+mod guards;
 mod literals;
 mod places;
 
+pub use guards::guards_have_form;
 pub use literals::{literals_are_bounded, machines_are_bounded, runs_are_bounded};
-pub use places::{tokens_rise, words_rise};
+pub use places::{tokens_rise, variables_rise, words_rise};
