@@ -1,7 +1,7 @@
 -- The numbers of the characters that bytes of a text spell are small.
-use Rattle.std.proofs.Common.{◌≡◌, ℕ, zero, suc, ◌+◌, ◌-◌, ◌*◌, ◌/◌, ◌%◌, ◌<◌, ◌≤◌, ◌^◌, Bool, true, false, cond, ◌⊎◌, inl, inr, List, [], ◌∷◌, ◌++◌, length, take, drop, get_or, map, Option, Some, None, refl, sym, ap, subst, arith, ◌∙◌, encode_utf8_all}
+use Rattle.std.proofs.Common.{◌≡◌, ℕ, zero, suc, ◌+◌, ◌-◌, ◌*◌, ◌/◌, ◌%◌, ◌<◌, ◌≤◌, Bool, true, false, cond, ◌⊎◌, inl, inr, List, [], ◌∷◌, ◌++◌, length, take, drop, Option, Some, None, refl, subst, arith}
 use Rattle.std.specs.Prelude.{nat_lt, nat_le, ◌&&◌, ◌||◌, ◌==◌, slice_index, if◌then◌else◌}
-use Rattle.std.specs.Char.{digit_value, encode_utf8, is_ascii_alphabetic}
+use Rattle.std.specs.Char.{digit_value}
 use Rattle.std.specs.List.{prefix_len}
 use Rattle.std.specs.Str.{is_utf8, IsUtf8}
 use Rattle.std.specs.Str.Lossy.{utf8_valid_len, valid_len_up_to}
@@ -10,7 +10,7 @@ use Rattle.std.proofs.lemmas.List.{length-drop, length-take}
 use Rattle.std.proofs.Math.Utf8.{scalar, scalars, encode, encodes, scalar_cases}
 use Rattle.std.proofs.lemmas.Str.{IsUtf8-from_is_utf8}
 use Rattle.bits_value.specs.Utf.{is_character}
-use Rattle.erl_syntax.specs.Characters.{is_digit, number, octal_number, first_number, named_number, hexadecimal_number, hexadecimal_len, braced_len, control_len, octal_len, character_len, escape_len, escape_number, escaped_number, spelled_len, spelled_number, spelled_from, spelled, between_quotes, string_characters, character_number}
+use Rattle.erl_syntax.specs.Characters.{is_digit, number, octal_number, first_number, named_number, hexadecimal_number, hexadecimal_len, braced_len, escape_len, escape_number, escaped_number, spelled_len, spelled_number, spelled_from, between_quotes, string_characters, character_number}
 use Rattle.erl_syntax.specs.Tokens.{front}
 
 -- each is a byte

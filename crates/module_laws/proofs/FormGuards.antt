@@ -1,6 +1,6 @@
 -- What a form of a module's text is read as has its guards and sizes in the form of guard expressions where its parts have: one lemma
 -- a form. Where `X` holds, as in a guard, it has that form itself.
-use Rattle.std.proofs.Common.{◌≡◌, ◌≢◌, ℕ, ℤ, pos, ◌<◌, ◌≤◌, ◌^◌, List, [], ◌∷◌, ◌++◌, length, map, Option, Some, None, refl, sym, subst}
+use Rattle.std.proofs.Common.{◌≢◌, ℕ, ℤ, List, [], ◌∷◌, length, map, Option, Some, None, sym, subst}
 use Rattle.std.specs.List.{find}
 use Rattle.erl_syntax.specs.declared.span.Span.{Span}
 use Rattle.erl_syntax.specs.declared.expr.Expr.{Expr}
@@ -26,17 +26,15 @@ use Rattle.erl_syntax.specs.BuiltIns.{is_bare, home_of}
 use Rattle.erl_syntax.specs.declared.built_in.BuiltIn.{BuiltIn}
 use Rattle.erl_syntax.specs.declared.built_in.BuiltIn.TheVariants as built
 use Rattle.erl_syntax.specs.declared.built_in.TheConstants.{BUILT_INS}
-use Rattle.term_value.specs.Value.{VInt, VAtom}
-use Rattle.term_value.specs.BuiltIns.{integers}
 use Rattle.term_value.specs.Tree as t
 use Rattle.term_value.specs.Read as r
 use Rattle.term_value.specs.Read.{Reading, Read, expression, literal, trees, Piece, segments, Line, Qualifier}
-use Rattle.term_value.specs.ReadTrees.{pattern_of, guard_tree, line_of, function_clauses, string}
+use Rattle.term_value.specs.ReadTrees.{pattern_of, guard_tree, line_of, function_clauses}
 use Rattle.term_layers.proofs.Readings.{expr_read, qual_read, alt_read, branch_read, segment_read, pieces_read as read_pieces, optional_read, expr_read-Var, expr_read-Wild, expr_read-Int, expr_read-Char, expr_read-Atom, expr_read-ModuleName, expr_read-Str, expr_read-Tuple, expr_read-List, expr_read-Bits, expr_read-ListFor, expr_read-BitsFor, expr_read-Call, expr_read-Case, expr_read-Receive, expr_read-If, expr_read-Unary, expr_read-Binary, pattern_of-Var, pattern_of-Wild, pattern_of-Int, pattern_of-Char, pattern_of-Atom, pattern_of-Str, pattern_of-Tuple, pattern_of-List, pattern_of-Bits, pattern_of-Same, qual_read-Items, qual_read-Bits, qual_read-Filter, alt_read-parts, branch_read-parts, guard_tree-parts, line_of-parts, segment_read-parts}
 use Rattle.term_value.specs.Calls.{is_named, form_of, form_or_call, called}
 use Rattle.term_value.specs.Tree.{Form, Send}
-use Rattle.module_laws.specs.GuardForms.{IsGuardForm, HasGuardForms, HaveClauseForms, HasTestForms, HasPatternForms}
-use Rattle.module_laws.proofs.ReadGuards.{IsRead, AreRead, OfRead, ArePieces, EachPattern, IsLine, EachLine, EachTest, IsBranch, EachBranch, IsQualifier, EachQualifier, trees_read, only_read, listed_read, call_read, operation_read, prefixed_read, pieces_read, pieces_append, built_read, segments_read, bits_read, patterns_read, pattern_list_read, body_read, guard_read, clauses_read, qualified_read}
+use Rattle.module_laws.specs.GuardForms.{HasGuardForms, HaveClauseForms, HasTestForms, HasPatternForms}
+use Rattle.module_laws.proofs.ReadGuards.{IsRead, AreRead, OfRead, ArePieces, EachPattern, IsLine, EachLine, EachTest, IsBranch, EachBranch, IsQualifier, EachQualifier, trees_read, listed_read, call_read, operation_read, prefixed_read, pieces_read, pieces_append, built_read, segments_read, bits_read, patterns_read, pattern_list_read, body_read, guard_read, clauses_read, qualified_read}
 
 form_no_send : (f : BuiltIn) → form_of f ≢ Send
 form_no_send built.Display e = cc e

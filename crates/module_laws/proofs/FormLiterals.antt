@@ -1,6 +1,5 @@
 -- What a form of a module's text is read as has its literals within the bounds where its parts have: one lemma a form.
-use Rattle.std.proofs.Common.{◌≡◌, ℕ, ℤ, pos, ◌<◌, ◌≤◌, ◌^◌, List, [], ◌∷◌, ◌++◌, length, map, Option, Some, None, refl, sym, subst}
-use Rattle.std.specs.List.{flat_map}
+use Rattle.std.proofs.Common.{ℕ, ℤ, pos, ◌<◌, ◌≤◌, ◌^◌, List, [], ◌∷◌, length, map, Option, refl, sym, subst}
 use Rattle.erl_syntax.specs.declared.span.Span.{Span}
 use Rattle.erl_syntax.specs.declared.expr.Expr.{Expr}
 use Rattle.erl_syntax.specs.declared.expr.Expr.TheVariants as x
@@ -19,17 +18,14 @@ use Rattle.erl_syntax.specs.declared.clause.Alt.{Alt, roll-Alt, out-roll-Alt}
 use Rattle.erl_syntax.specs.declared.clause.Branch.{Branch, roll-Branch, out-roll-Branch}
 use Rattle.erl_syntax.specs.declared.module.Clause.{Clause}
 use Rattle.erl_syntax.specs.declared.module.Function.{Function}
-use Rattle.erl_syntax.specs.Atoms.{a_ok}
 use Rattle.term_value.specs.Value.{VInt, VAtom}
-use Rattle.term_value.specs.BuiltIns.{integers}
 use Rattle.term_value.specs.Tree.{Val}
 use Rattle.term_value.specs.Tree as t
-use Rattle.term_value.specs.Read as r
-use Rattle.term_value.specs.Read.{Reading, Read, expression, literal, trees, Piece, segments, Line, Qualifier}
-use Rattle.term_value.specs.ReadTrees.{pattern_of, guard_tree, line_of, function_clauses, string}
-use Rattle.term_layers.specs.Inside.{InTree, InClauses, InGuard, InPattern, InPatterns, IsBounded}
+use Rattle.term_value.specs.Read.{Reading, segments}
+use Rattle.term_value.specs.ReadTrees.{pattern_of, guard_tree, line_of, function_clauses}
+use Rattle.term_layers.specs.Inside.{InClauses, InGuard, InPattern, IsBounded}
 use Rattle.term_layers.proofs.Readings.{expr_read, qual_read, alt_read, branch_read, segment_read, pieces_read as read_pieces, optional_read, expr_read-Var, expr_read-Wild, expr_read-Int, expr_read-Char, expr_read-Atom, expr_read-ModuleName, expr_read-Str, expr_read-Tuple, expr_read-List, expr_read-Bits, expr_read-ListFor, expr_read-BitsFor, expr_read-Call, expr_read-Case, expr_read-Receive, expr_read-If, expr_read-Unary, expr_read-Binary, pattern_of-Var, pattern_of-Wild, pattern_of-Int, pattern_of-Char, pattern_of-Atom, pattern_of-Str, pattern_of-Tuple, pattern_of-List, pattern_of-Bits, pattern_of-Same, qual_read-Items, qual_read-Bits, qual_read-Filter, alt_read-parts, branch_read-parts, guard_tree-parts, line_of-parts, segment_read-parts}
-use Rattle.module_laws.proofs.ReadLiterals.{IsNear, AreNear, IsRead, AreRead, OfRead, IsPiece, ArePieces, EachPattern, IsLine, EachLine, EachTest, IsBranch, EachBranch, IsQualifier, EachQualifier, near_bounded, string_bounded, number_read, trees_read, only_read, listed_read, operation_read, prefixed_read, pieces_read, pieces_append, built_read, segments_read, bits_read, patterns_read, pattern_list_read, body_read, guard_read, clauses_read, qualified_read}
+use Rattle.module_laws.proofs.ReadLiterals.{IsNear, AreNear, IsRead, AreRead, OfRead, ArePieces, EachPattern, IsLine, EachLine, EachTest, IsBranch, EachBranch, IsQualifier, EachQualifier, near_bounded, string_bounded, number_read, trees_read, listed_read, operation_read, prefixed_read, pieces_read, pieces_append, built_read, segments_read, bits_read, patterns_read, pattern_list_read, body_read, guard_read, clauses_read, qualified_read}
 
 module _ (rd : Reading) where
   abbrev pub E : Expr → Type 0

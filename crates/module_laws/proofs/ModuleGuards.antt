@@ -1,11 +1,11 @@
 -- Guards and sizes of a module that was read have the form of guard expressions.
-use Rattle.std.proofs.Common.{◌≡◌, ℕ, List, [], ◌∷◌, map}
+use Rattle.std.proofs.Common.{List, [], ◌∷◌, map}
 use Rattle.std.specs.List.{zip}
 use Rattle.std.proofs.lemmas.List.Elements.{All-nil, All-cons}
 use Rattle.std.specs.List.{All}
 use Rattle.erl_syntax.specs.Checking.{number_at}
 use Rattle.erl_syntax.specs.Grammar.{strict}
-use Rattle.erl_syntax.specs.Reading.{Reads, words_of}
+use Rattle.erl_syntax.specs.Reading.{words_of}
 use Rattle.erl_syntax.specs.declared.checking.VarUse.{VarUse}
 use Rattle.erl_syntax.specs.declared.module.Function.{Function}
 use Rattle.erl_syntax.specs.declared.module.Module.{Module}

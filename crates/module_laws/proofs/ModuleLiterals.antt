@@ -1,9 +1,9 @@
 -- The literals of a module that was read are within the bounds.
-use Rattle.std.proofs.Common.{◌≡◌, ℕ, List, [], ◌∷◌, map}
+use Rattle.std.proofs.Common.{List, [], ◌∷◌, map}
 use Rattle.std.specs.List.{zip}
 use Rattle.erl_syntax.specs.Checking.{number_at}
 use Rattle.erl_syntax.specs.Grammar.{strict}
-use Rattle.erl_syntax.specs.Reading.{Reads, words_of}
+use Rattle.erl_syntax.specs.Reading.{words_of}
 use Rattle.erl_syntax.specs.declared.checking.VarUse.{VarUse}
 use Rattle.erl_syntax.specs.declared.module.Function.{Function}
 use Rattle.erl_syntax.specs.declared.module.Module.{Module}

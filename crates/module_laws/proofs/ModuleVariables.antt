@@ -1,13 +1,12 @@
 -- The variables of a function of a module that was read stand at places that rise.
-use Rattle.std.proofs.Common.{◌≡◌, ℕ, List, [], ◌∷◌, map, None}
+use Rattle.std.proofs.Common.{List, [], ◌∷◌, None}
 use Rattle.std.specs.List.{All}
 use Rattle.std.proofs.lemmas.List.Elements.{All-nil, All-cons, All-map}
 use Rattle.erl_syntax.specs.Checking.{IsBefore, RisingBy}
 use Rattle.erl_syntax.specs.Grammar.{strict}
-use Rattle.erl_syntax.specs.Reading.{Reads, words_of}
+use Rattle.erl_syntax.specs.Reading.{words_of}
 use Rattle.erl_syntax.specs.Word.{Word}
 use Rattle.erl_syntax.specs.declared.module.Function.{Function}
-use Rattle.erl_syntax.specs.declared.module.Module.{Module}
 use Rattle.erl_syntax.specs.declared.span.Span.{Span}
 use Rattle.module_laws.specs.Variables.{function_spans, VariablesRise}
 use Rattle.module_laws.proofs.RisingPlaces.{words_rise}

@@ -1,15 +1,13 @@
 -- What is read has its guards and sizes in the form of guard expressions where what it is read from has: one lemma a form. Where `X`
 -- holds, as in a guard, it has that form itself.
-use Rattle.std.proofs.Common.{◌≡◌, ◌≢◌, ℕ, pos, ◌+◌, Bool, true, false, List, [], ◌∷◌, ◌++◌, map, reverse, Option, Some, None, refl}
+use Rattle.std.proofs.Common.{◌≢◌, ℕ, pos, List, [], ◌∷◌, ◌++◌, map, reverse, Option, Some, None, refl}
 use mathlib.Core.List.{reverse_aux}
-use Rattle.std.specs.Prelude.{nat_eq, ◌&&◌, ◌||◌, not}
-use Rattle.std.specs.List.{list_any}
 use Rattle.erl_syntax.specs.declared.expr.Op.{Op}
 use Rattle.erl_syntax.specs.declared.expr.Op.TheVariants as o
 use Rattle.erl_syntax.specs.declared.expr.Prefix.{Prefix}
 use Rattle.erl_syntax.specs.declared.segment.Spec.{Spec}
 use Rattle.term_value.specs.Value.{VInt}
-use Rattle.term_value.specs.Tree.{Target, Anything, Variable, Equal, Tree, Val, Trees, end, and, Pattern, Segments, no_segment, segment, Form, Table, Call, Send, Display, Spawn, All}
+use Rattle.term_value.specs.Tree.{Tree, Trees, end, Pattern, Segments, no_segment, segment, Form, Table, Call, Send, Display, Spawn, All}
 use Rattle.term_value.specs.Rows.{and_variable, shape_after, bits_generator}
 use Rattle.term_value.specs.Read.{Read, expression, literal, trees, only, Piece, piece, pieces_of, pieces, before_size, parts, built_from, segments, listed, prefixed, operation, Line, patterns, from_right, last_line, body, alternatives, guard_of, Branch, clauses, Qualifier, Generates, Filters, qualified, pattern_list}
 use Rattle.module_laws.specs.GuardForms.{IsGuardForm, AreGuardForms, HasGuardForms, HaveGuardForms, HaveClauseForms, HasTestForms, HaveQualForms, HasGeneratorForms, HasPatternForms, HavePatternForms, HaveSizeForms}

@@ -1,22 +1,22 @@
 -- What is read has its literals within the bounds where what it is read from has: one lemma a form.
-use Rattle.std.proofs.Common.{◌≡◌, ℕ, zero, suc, ℤ, pos, negsuc, ◌+◌, ◌<◌, ◌≤◌, ◌^◌, max, Bool, true, false, List, [], ◌∷◌, ◌++◌, length, map, reverse, Option, Some, None, refl, sym, ap, subst, arith}
+use Rattle.std.proofs.Common.{◌≡◌, ℕ, zero, suc, ℤ, pos, negsuc, ◌+◌, ◌<◌, ◌≤◌, ◌^◌, Bool, true, false, List, [], ◌∷◌, ◌++◌, length, map, reverse, Option, Some, None, refl, arith}
 use mathlib.Core.List.{reverse_aux}
 use Rattle.std.specs.Prelude.{nat_le, nat_lt, neg_ℤ, ◌&&◌, not}
-use Rattle.std.specs.List.{flat_map, list_any}
-use Rattle.std.specs.Prelude.{nat_eq, ◌||◌}
+use Rattle.std.specs.List.{list_any}
+use Rattle.std.specs.Prelude.{nat_eq}
 use Rattle.std.proofs.lemmas.Bool.Decides.{nat_tests}
 use Rattle.erl_syntax.specs.declared.expr.Op.{Op}
 use Rattle.erl_syntax.specs.declared.expr.Op.TheVariants as o
 use Rattle.erl_syntax.specs.declared.expr.Prefix.{Prefix}
 use Rattle.erl_syntax.specs.declared.expr.Prefix.TheVariants as p
 use Rattle.erl_syntax.specs.declared.segment.Spec.{Spec}
-use Rattle.term_value.specs.Value.{Value, VInt, VAtom, VPid, VTuple, VList, VBits, Values, none, more, row, count, weights, depths}
-use Rattle.term_value.specs.Bounds.{item_bound, weight_bound, depth_bound, is_within}
+use Rattle.term_value.specs.Value.{Value, VInt, VAtom, VPid, VTuple, VList, VBits, count, weights, depths}
+use Rattle.term_value.specs.Bounds.{item_bound, weight_bound, depth_bound}
 use Rattle.term_value.specs.BuiltIns.{integers}
-use Rattle.term_value.specs.Tree.{Target, Anything, Variable, Equal, Tree, Val, All, First, Trees, end, and, Last, Then, AndAlso, OrElse, Clauses, Guard, never, or, Quals, Generator, InList, InBits, Pattern, Patterns, Segments, no_segment, segment}
-use Rattle.term_value.specs.Rows.{uses, variable_where, shape_of_target, and_variable, shape_after, shape, bits_generator}
+use Rattle.term_value.specs.Tree.{Target, Anything, Variable, Equal, Tree, Trees, end, Pattern, Segments, no_segment, segment}
+use Rattle.term_value.specs.Rows.{uses, variable_where, shape_of_target, and_variable, shape_after, bits_generator}
 use Rattle.term_value.specs.Read.{Read, expression, literal, trees, only, Piece, piece, pieces_of, pieces, before_size, parts, built_from, segments, listed, signed_target, prefixed, operation, Line, patterns, from_right, last_line, body, alternatives, guard_of, Branch, clauses, Qualifier, Generates, Filters, qualified, pattern_list}
-use Rattle.term_layers.specs.Inside.{InTarget, InTree, InTrees, InShut, InClauses, InGuard, InQuals, InGenerator, InPattern, InPatterns, InSegments, IsBounded, AreBounded}
+use Rattle.term_layers.specs.Inside.{InTarget, InTree, InTrees, InClauses, InGuard, InQuals, InGenerator, InPattern, InPatterns, InSegments, IsBounded, AreBounded}
 
 -- ---- Values
 

@@ -1,22 +1,20 @@
 -- The tokens of a text stand at places that rise.
-use Rattle.std.proofs.Common.{◌≡◌, ℕ, zero, suc, ◌+◌, ◌-◌, ◌<◌, ◌≤◌, Bool, true, false, cond, ◌⊎◌, inl, inr, List, [], ◌∷◌, ◌++◌, length, take, drop, map, get_or, All, Option, Some, None, IfSome, refl, sym, ap, subst, arith, ◌∙◌, zero-add, add-one}
+use Rattle.std.proofs.Common.{◌≡◌, ℕ, zero, suc, ◌+◌, ◌<◌, ◌≤◌, Bool, true, false, ◌⊎◌, inl, inr, List, [], ◌∷◌, ◌++◌, length, take, drop, map, Option, Some, None, IfSome, refl, sym, ap, subst, arith, ◌∙◌, zero-add}
 use Rattle.std.specs.Prelude.{nat_lt, nat_le, ◌&&◌, ◌||◌, ◌==◌, slice_index, if◌then◌else◌}
 use Rattle.std.specs.Char.{is_ascii_alphabetic, digit_value}
 use Rattle.std.specs.Int.{is_in_range}
 use Rattle.std.specs.List.{find, list_all, AllByRecursion}
-use Rattle.std.proofs.Math.Seq.{drop-cons}
 use Rattle.std.proofs.lemmas.Bool.Decides.{nat_tests}
-use Rattle.std.proofs.lemmas.List.{get_or-take, length-take, length-drop}
+use Rattle.std.proofs.lemmas.List.{length-drop}
 use Rattle.std.proofs.lemmas.List.Elements.{All-from_recursion, All-map, All-tail, recursion_from_All}
 use Rattle.std.proofs.lemmas.Str.Parse.{digit_from_value}
 use Rattle.erl_syntax.specs.Characters.{is_continuation, is_digit}
 use Rattle.erl_syntax.specs.Checking.{IsBefore, RisingBy}
-use Rattle.erl_syntax.specs.Reading.{word_of, are_strings, before, joined, words_of}
+use Rattle.erl_syntax.specs.Reading.{word_of, are_strings, before, joined}
 use Rattle.erl_syntax.specs.Spellings.{spelling, begins_with}
-use Rattle.erl_syntax.specs.Tokens.{white_len, comment_len, comment, begins_name, name, integer_at, character, string, quoted_atom, ends_form, full_stop, marked, mark, piece, after, place_from, place, front, is_cut, Lexes, LexesFrom, ends, stops, skips, finds, refuses}
+use Rattle.erl_syntax.specs.Tokens.{white_len, comment, begins_name, name, integer_at, character, string, quoted_atom, ends_form, full_stop, marked, mark, piece, after, place_from, place, front, is_cut, LexesFrom, ends, stops, skips, finds, refuses}
 use Rattle.erl_syntax.specs.Word.{Word}
 use Rattle.erl_syntax.specs.declared.span.Span.{Span}
-use Rattle.erl_syntax.specs.declared.token.LexCause.TheVariants as why
 use Rattle.erl_syntax.specs.declared.token.LexFault.{LexFault}
 use Rattle.erl_syntax.specs.declared.token.Piece.{Piece}
 use Rattle.erl_syntax.specs.declared.token.Piece.TheVariants as p

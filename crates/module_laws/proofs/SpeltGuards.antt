@@ -8,7 +8,7 @@ use Rattle.erl_syntax.specs.declared.module.Function.{Function}
 use Rattle.erl_syntax.specs.declared.module.Head.{Head}
 use Rattle.erl_syntax.specs.declared.module.Name.{Name}
 use Rattle.erl_syntax.specs.Word.{Word}
-use Rattle.erl_syntax.specs.Grammar.{Mode, InBody, InGuard, InSize, Context, in_mode, Limits, Goal, Mark, At, The, Of, Part, Level, Tail, Operand, Common, AfterAtom, Qualified, Exprs, MoreExprs, ListRest, AfterFirst, ListItems, BitsRest, AfterValue, Prefixed, ASegment, MoreSegments, Simple, SegmentRest, SegmentType, ASpec, MoreSpecs, Quals, MoreQuals, AQual, APattern, SameTail, MoreSame, Pat, Patterns, MorePatterns, PatternList, PatternItems, PatternBits, MorePatternSegments, PatternSegment, PatternValue, PatternSegmentRest, PatternSize, Guarded, Tests, MoreTests, Body, MoreItems, AnItem, Alts, MoreAlts, AnAlt, Branches, MoreBranches, ABranch, Forms, Skipped, Names, MoreNames, AName, MoreClauses, AClause, level, operand, alone, right, left, prefix, atom, macro, tuple, list, case, receive, if_, common, variable, integer, character, string, bits, paren, call, no_call, unqualified, qualified, no_exprs, exprs, more_exprs, end_exprs, no_list, list_first, list_for, list_items, next_item, list_tail, end_list, no_bits, bits_prefixed, bits_first, bits_for, bits_segments, more_segments, end_segments, segment_prefixed, segment, prefixed, simple_atom, simple, sized, unsized, typed, untyped, more_specs, end_specs, spec, unit, any_spec, quals, more_quals, end_quals, generator, bits_generator, filter, pattern, not_same, same, more_same, end_same, pat_variable, pat_wild, pat_integer, pat_signed, pat_character, pat_atom, pat_string, pat_paren, pat_tuple, pat_list, pat_bits, no_patterns, patterns, more_patterns, end_patterns, no_pattern_list, pattern_list, next_pattern, pattern_tail, end_pattern_list, no_pattern_bits, pattern_bits, more_pattern_segments, end_pattern_segments, pattern_segment, value_variable, value_wild, value_integer, value_signed, value_character, value_string, pattern_sized, pattern_unsized, size_integer, size_variable, size_paren, unguarded, guarded, tests, next_test, next_alternative, end_tests, body, more_items, end_items, item_match, item_value, alts, more_alts, end_alts, alt, branches, more_branches, end_branches, branch, no_forms, head, export, skipped, any_form, function, end_skipped, skips, no_names, names, more_names, end_names, name, more_clauses, end_clauses, clause, Produces, Spells, ends, takes, begins, this, expands}
+use Rattle.erl_syntax.specs.Grammar.{InBody, InGuard, InSize, Context, in_mode, Limits, Goal, Mark, At, The, Of, Part, Level, Tail, Operand, Common, AfterAtom, Qualified, Exprs, MoreExprs, ListRest, AfterFirst, ListItems, BitsRest, AfterValue, Prefixed, ASegment, MoreSegments, Simple, SegmentRest, SegmentType, ASpec, MoreSpecs, Quals, MoreQuals, AQual, APattern, SameTail, MoreSame, Pat, Patterns, MorePatterns, PatternList, PatternItems, PatternBits, MorePatternSegments, PatternSegment, PatternValue, PatternSegmentRest, PatternSize, Guarded, Tests, MoreTests, Body, MoreItems, AnItem, Alts, MoreAlts, AnAlt, Branches, MoreBranches, ABranch, Forms, Skipped, Names, MoreNames, AName, MoreClauses, AClause, level, operand, alone, right, left, prefix, atom, macro, tuple, list, case, receive, if_, common, variable, integer, character, string, bits, paren, call, no_call, unqualified, qualified, no_exprs, exprs, more_exprs, end_exprs, no_list, list_first, list_for, list_items, next_item, list_tail, end_list, no_bits, bits_prefixed, bits_first, bits_for, bits_segments, more_segments, end_segments, segment_prefixed, segment, prefixed, simple_atom, simple, sized, unsized, typed, untyped, more_specs, end_specs, spec, unit, any_spec, quals, more_quals, end_quals, generator, bits_generator, filter, pattern, not_same, same, more_same, end_same, pat_variable, pat_wild, pat_integer, pat_signed, pat_character, pat_atom, pat_string, pat_paren, pat_tuple, pat_list, pat_bits, no_patterns, patterns, more_patterns, end_patterns, no_pattern_list, pattern_list, next_pattern, pattern_tail, end_pattern_list, no_pattern_bits, pattern_bits, more_pattern_segments, end_pattern_segments, pattern_segment, value_variable, value_wild, value_integer, value_signed, value_character, value_string, pattern_sized, pattern_unsized, size_integer, size_variable, size_paren, unguarded, guarded, tests, next_test, next_alternative, end_tests, body, more_items, end_items, item_match, item_value, alts, more_alts, end_alts, alt, branches, more_branches, end_branches, branch, no_forms, head, export, skipped, any_form, function, end_skipped, skips, no_names, names, more_names, end_names, name, more_clauses, end_clauses, clause, Produces, Spells, ends, takes, begins, this, expands}
 use Rattle.term_value.specs.Read.{Reading}
 use Rattle.module_laws.proofs.FormGuards.{E, Es, OptionE, P, Ps, S, Ss, Q, Qs, G, Ts, I, Is, A, As, B, Bs, C, Cs, Fs, E-Var, E-Wild, E-Int, E-Char, E-Atom, E-ModuleName, E-Str, E-Tuple, E-List, E-Bits, E-ListFor, E-BitsFor, E-Call, E-Case, E-Receive, E-If, E-Unary, E-Binary, P-Var, P-Wild, P-Int, P-Char, P-Atom, P-Str, P-Tuple, P-List, P-Bits, P-Same, Q-Items, Q-Bits, Q-Filter, S-of, Ss-cons, G-none, G-of, I-of, I-more, A-of, B-of}
 

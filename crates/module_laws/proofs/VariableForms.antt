@@ -15,8 +15,8 @@ use Rattle.erl_syntax.specs.declared.segment.Segment.{Segment}
 use Rattle.erl_syntax.specs.declared.segment.Spec.{Spec}
 use Rattle.erl_syntax.specs.declared.clause.Guard.{Guard}
 use Rattle.erl_syntax.specs.declared.clause.Item.{Item}
-use Rattle.erl_syntax.specs.declared.clause.Alt.{Alt, roll-Alt, out-Alt, out-roll-Alt}
-use Rattle.erl_syntax.specs.declared.clause.Branch.{Branch, roll-Branch, out-Branch, out-roll-Branch}
+use Rattle.erl_syntax.specs.declared.clause.Alt.{Alt, roll-Alt, out-roll-Alt}
+use Rattle.erl_syntax.specs.declared.clause.Branch.{Branch, roll-Branch, out-roll-Branch}
 use Rattle.erl_syntax.specs.declared.module.Clause.{Clause}
 use Rattle.module_laws.specs.Variables.{joined, clause_spans, expr_layer, pattern_layer, qual_layer, alt_layer, branch_layer, guard_layer, item_layer, segment_layer, expr_spans, pattern_spans, qual_spans, alt_spans, branch_spans, guard_spans, item_spans, segment_spans}
 

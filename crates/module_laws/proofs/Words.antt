@@ -1,6 +1,6 @@
 -- What the tokens of a text stand for is small.
-use Rattle.std.proofs.Common.{◌≡◌, ℕ, zero, suc, ◌+◌, ◌-◌, ◌<◌, ◌≤◌, ◌^◌, Bool, true, false, if◌then◌else◌, List, [], ◌∷◌, ◌++◌, length, take, drop, map, Option, None, refl, sym, ap, subst, arith, ◌∙◌}
-use Rattle.std.proofs.lemmas.List.{length-append, length-drop, length-take}
+use Rattle.std.proofs.Common.{◌≡◌, ℕ, ◌+◌, ◌-◌, ◌<◌, ◌≤◌, ◌^◌, Bool, true, false, if◌then◌else◌, List, [], ◌∷◌, ◌++◌, length, take, drop, map, Option, None, refl, sym, ap, subst, arith, ◌∙◌}
+use Rattle.std.proofs.lemmas.List.{length-append, length-take}
 use Rattle.std.proofs.lemmas.Bool.Decides.{nat_tests}
 use Rattle.std.proofs.lemmas.List.Elements.{recursion_from_All}
 use Rattle.std.proofs.lemmas.Str.{utf8_valid_len_le}
@@ -8,18 +8,18 @@ use Rattle.std.proofs.Math.Seq.{take-length}
 use Rattle.std.specs.List.{AllByRecursion}
 use Rattle.std.specs.Str.Lossy.{utf8_valid_len}
 use Rattle.erl_syntax.specs.Word.{Word}
-use Rattle.erl_syntax.specs.Characters.{integer_value, character_number, string_characters, atom_text}
-use Rattle.erl_syntax.specs.Reading.{longest_text, number_of, characters_of, word_of, are_strings, before, joined, words_of, Reads}
+use Rattle.erl_syntax.specs.Characters.{string_characters}
+use Rattle.erl_syntax.specs.Reading.{longest_text, number_of, characters_of, word_of, are_strings, before, joined, words_of}
 use Rattle.erl_syntax.specs.Tokens.{place, front, is_cut, token_text, Lexes, LexesFrom, ends, stops, skips, finds, refuses}
 use Rattle.erl_syntax.specs.declared.token.LexFault.{LexFault}
 use Rattle.erl_syntax.specs.declared.token.Token.{Token}
 use Rattle.erl_syntax.specs.declared.token.TokenKind.{TokenKind}
 use Rattle.erl_syntax.specs.declared.token.TokenKind.TheVariants as k
-use Rattle.erl_tokens.specs.Values.{IsInteger, AllIntegers}
+use Rattle.erl_tokens.specs.Values.{IsInteger}
 use Rattle.erl_tokens.proofs.AllValues.{text_integers}
-use Rattle.module_laws.proofs.Characters.{most, AreBytes, AreSmall, bytes-take, bytes-drop, front_bytes, string_small, string_few, character_few}
+use Rattle.module_laws.proofs.Characters.{AreBytes, AreSmall, bytes-take, bytes-drop, front_bytes, string_small, string_few, character_few}
 use Rattle.module_laws.proofs.ReadLiterals.{AreNear}
-use Rattle.module_laws.proofs.SpeltLiterals.{IsShort, IsSmall, IsSmallWord, AreSmallWords}
+use Rattle.module_laws.proofs.SpeltLiterals.{IsSmall, AreSmallWords}
 
 -- ---- How many characters strings have
 

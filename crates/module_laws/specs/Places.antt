@@ -1,5 +1,5 @@
 -- Where the tokens of a text stand.
-use Rattle.std.specs.Prelude.{ℕ, List, Option, None}
+use Rattle.std.specs.Prelude.{ℕ, List, Option}
 use Rattle.erl_syntax.specs.Checking.{RisingBy}
 use Rattle.erl_syntax.specs.Reading.{words_of}
 use Rattle.erl_syntax.specs.Tokens.{Lexes}
