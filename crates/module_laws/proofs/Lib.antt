@@ -4,6 +4,7 @@ pub mod FormLiterals
 pub mod ModuleGuards
 pub mod ModuleLiterals
 pub mod ModuleVariables
+pub mod NumberedPlaces
 pub mod ReadGuards
 pub mod ReadLiterals
 pub mod RisingPlaces

@@ -1,4 +1,5 @@
 pub mod GuardForms
 pub mod Literals
+pub mod Numbers
 pub mod Places
 pub mod Variables

@@ -3,8 +3,10 @@
 
 mod guards;
 mod literals;
+mod numbers;
 mod places;
 
 pub use guards::guards_have_form;
 pub use literals::{literals_are_bounded, machines_are_bounded, runs_are_bounded};
+pub use numbers::numbers_are_of_places;
 pub use places::{tokens_rise, variables_rise, words_rise};
