@@ -1,0 +1,253 @@
+-- What comes of an actor's acts.
+use Rattle.std.proofs.Common.{◌≡◌, ℕ, Bool, true, false, List, map, Option, Some, None, is_some, refl, sym, ap, ◌∙◌, subst}
+use Rattle.std.specs.Prelude.{nat_eq}
+use Rattle.std.proofs.lemmas.Bool.{eqb-true, eq-eqb}
+use Rattle.term_value.specs.Result.{truth}
+use Rattle.term_value.specs.Texts.{text}
+use Rattle.term_value.specs.Value.{Value, Values}
+use Rattle.term_value.specs.Seen.{Seen}
+use Rattle.term_value.specs.Tree.{Module}
+use Rattle.term_value.specs.Step.{Ask, SendTo, Show, Start, name_in}
+use Rattle.term_value.specs.Local.{Local, next_of, NextAsk, Wants, WantsMore, EndsDone, EndsRaised, asked}
+use Rattle.term_value.specs.AskOf.{ask_of}
+use Rattle.term_value.specs.Machine as m
+use Rattle.term_value.specs.declared.entry.Entry.TheVariants.{Sent, Shown, Ended}
+use Rattle.term_value.specs.declared.entry.Entry.{Entry}
+use Rattle.term_layers.proofs.Runs.{ask_reached}
+use Rattle.code_tree.specs.PlainTerms.{value}
+use Rattle.process_acts.specs.Acts.{Runs, AsksFor, AsksStart, AwaitsAnswer, IsAsking}
+use Rattle.process_acts.specs.declared.asking.Asking as asking
+use Rattle.process_acts.specs.declared.asking.Asking.TheVariants as a
+use Rattle.copy_machine.specs.Asks.{if_named, message_to, shown_by, ended_by, arguments_of}
+use Rattle.copy_machine.specs.Following.{StandsAt, Plays, ending_of}
+use Rattle.copy_machine.specs.Entering.{Setting, IsIn, Acts, Settles, Answers, pid_of}
+use Rattle.copy_machine.specs.declared.act.Act.TheVariants.{Refused, Goes, Ends}
+use Rattle.copy_machine.specs.declared.act.Effect.TheVariants as f
+use Rattle.copy_machine.specs.declared.actor.Actor.{Actor}
+use Rattle.copy_machine.specs.declared.ending.Ending.{Ending}
+use Rattle.copy_machine.specs.declared.ending.Ending.TheVariants as ends
+use Rattle.copy_machine.proofs.Paths.{none, on_from}
+
+-- ---- What a process asks for that came to its ask
+
+asked_for : (code : Module) (l k : Local) (ask : Ask) → Runs code l k → (h : AsksFor code k ask) → ask_of code l ≡ Wants ask h.next
+asked_for code l k ask r h = sym (ask_reached code l k r.cost r.made (Wants ask h.next) r.path (ap asked h.asks))
+
+start_asked : (code : Module) (k : Local) (module_name function : ℕ) (list : Value) → AsksStart code k module_name function list → AsksFor code k (Start module_name function (arguments_of list))
+start_asked code k module_name function list h = subst (λ (vs : Values). AsksFor code k (Start module_name function vs)) (sym (ap arguments_of h.are)) h.asks
+
+abbrev Tells : asking.Asking → NextAsk → Type 0
+Tells (a.Send to v) n = (next : Value → Local) × (n ≡ Wants (SendTo to (value v)) next)
+Tells (a.Show v) n = (next : Value → Local) × (n ≡ Wants (Show (value v)) next)
+Tells (a.Start module_name function vs) n = (next : Value → Local) × (n ≡ Wants (Start module_name function (arguments_of (value vs))) next)
+Tells a.More n = (state : Local) × (n ≡ WantsMore state)
+Tells a.Done n = n ≡ EndsDone
+Tells (a.Raised reason) n = n ≡ EndsRaised (value reason)
+
+tells : (code : Module) (l k : Local) → Runs code l k → (ask : asking.Asking) → IsAsking code k ask → Tells ask (ask_of code l)
+tells code l k r (a.Send to v) h = (h.next, asked_for code l k (SendTo to (value v)) r h)
+tells code l k r (a.Show v) h = (h.next, asked_for code l k (Show (value v)) r h)
+tells code l k r (a.Start module_name function vs) h =
+    let b = start_asked code k module_name function (value vs) h in (b.next, asked_for code l k (Start module_name function (arguments_of (value vs))) r b)
+tells code l k r a.More h = (h.state, sym (ask_reached code l k r.cost r.made (WantsMore h.state) r.path (ap asked h.asks)))
+tells code l k r a.Done h = sym (ask_reached code l k r.cost r.made EndsDone r.path (ap asked h))
+tells code l k r (a.Raised reason) h = sym (ask_reached code l k r.cost r.made (EndsRaised (value reason)) r.path (ap asked h))
+
+-- ---- Which entries no machine allows
+
+refused_if : (b : Bool) (v : Seen (List Bool)) (x : m.Machine) → if_named b v ≡ None → m.if_fits b x ≡ None
+refused_if true v x e = absurd (cc e)
+refused_if false v x e = refl
+
+send_refused : (ask : asking.Asking) (n : NextAsk) (to : ℕ) → message_to to (Some ask) ≡ None → Tells ask n → (machine : m.Machine) (pid : ℕ) → m.sends machine pid to (Some n) ≡ None
+send_refused (a.Send receiver v) n to e t machine pid = ap (λ (x : NextAsk). m.sends machine pid to (Some x)) t.1 ∙ refused_if (nat_eq receiver to) v _ e
+send_refused (a.Show v) n to e t machine pid = ap (λ (x : NextAsk). m.sends machine pid to (Some x)) t.1
+send_refused (a.Start module_name function vs) n to e t machine pid = ap (λ (x : NextAsk). m.sends machine pid to (Some x)) t.1
+send_refused a.More n to e t machine pid = ap (λ (x : NextAsk). m.sends machine pid to (Some x)) t.1
+send_refused a.Done n to e t machine pid = ap (λ (x : NextAsk). m.sends machine pid to (Some x)) t
+send_refused (a.Raised reason) n to e t machine pid = ap (λ (x : NextAsk). m.sends machine pid to (Some x)) t
+
+show_refused : (ask : asking.Asking) (n : NextAsk) → shown_by (Some ask) ≡ None → Tells ask n → (machine : m.Machine) (pid : ℕ) → m.shows machine pid (Some n) ≡ None
+show_refused (a.Send receiver v) n e t machine pid = ap (λ (x : NextAsk). m.shows machine pid (Some x)) t.1
+show_refused (a.Show v) n e t machine pid = absurd (cc e)
+show_refused (a.Start module_name function vs) n e t machine pid = ap (λ (x : NextAsk). m.shows machine pid (Some x)) t.1
+show_refused a.More n e t machine pid = ap (λ (x : NextAsk). m.shows machine pid (Some x)) t.1
+show_refused a.Done n e t machine pid = ap (λ (x : NextAsk). m.shows machine pid (Some x)) t
+show_refused (a.Raised reason) n e t machine pid = ap (λ (x : NextAsk). m.shows machine pid (Some x)) t
+
+end_refused : (code : Module) (ask : asking.Asking) (n : NextAsk) → ended_by code (Some ask) ≡ None → Tells ask n → (machine : m.Machine) (pid : ℕ) → m.ends machine pid (Some n) ≡ None
+end_refused code (a.Send receiver v) n e t machine pid = ap (λ (x : NextAsk). m.ends machine pid (Some x)) t.1
+end_refused code (a.Show v) n e t machine pid = ap (λ (x : NextAsk). m.ends machine pid (Some x)) t.1
+end_refused code (a.Start module_name function vs) n e t machine pid = ap (λ (x : NextAsk). m.ends machine pid (Some x)) t.1
+end_refused code a.More n e t machine pid = ap (λ (x : NextAsk). m.ends machine pid (Some x)) t.1
+end_refused code a.Done n e t machine pid = absurd (cc e)
+end_refused code (a.Raised reason) n e t machine pid = absurd (cc e)
+
+end_told : (code : Module) (ask : asking.Asking) (n : NextAsk) (ending : Ending) → ended_by code (Some ask) ≡ Some ending → Tells ask n
+    → (how : m.End) × (ending ≡ ending_of code how) × ((machine : m.Machine) (pid : ℕ) → m.ends machine pid (Some n) ≡ Some (m.with_process machine pid (m.Over how)))
+end_told code (a.Send receiver v) n ending e t = absurd (cc e)
+end_told code (a.Show v) n ending e t = absurd (cc e)
+end_told code (a.Start module_name function vs) n ending e t = absurd (cc e)
+end_told code a.More n ending e t = absurd (cc e)
+end_told code a.Done n ending e t = let same : ending ≡ ends.Normal = cc e in (m.Normal, same, λ machine pid. ap (λ (x : NextAsk). m.ends machine pid (Some x)) t)
+end_told code (a.Raised reason) n ending e t =
+    let same : ending ≡ ends.Exit (text (name_in code) (value reason)) = cc e in (m.Exit (value reason), same, λ machine pid. ap (λ (x : NextAsk). m.ends machine pid (Some x)) t)
+
+-- ---- What is asked for where the ask is of this kind
+
+module _ (code : Module) (k : Local) where
+  named : (b : Bool) (receiver to : ℕ) (u v : Seen (List Bool)) → nat_eq receiver to ≡ b → if_named b u ≡ Some v → AsksFor code k (SendTo receiver (value u)) → AsksFor code k (SendTo to (value v))
+  named true receiver to u v t e h =
+      let same : u ≡ v = cc e in
+      subst (λ (x : ℕ). AsksFor code k (SendTo x (value v))) (eqb-true receiver to t) (subst (λ (x : Seen (List Bool)). AsksFor code k (SendTo receiver (value x))) same h)
+  named false receiver to u v t e h = absurd (cc e)
+
+  pub sends_this : (ask : asking.Asking) (to : ℕ) (v : Seen (List Bool)) → message_to to (Some ask) ≡ Some v → IsAsking code k ask → AsksFor code k (SendTo to (value v))
+  sends_this (a.Send receiver u) to v e h = named (nat_eq receiver to) receiver to u v refl e h
+  sends_this (a.Show u) to v e h = absurd (cc e)
+  sends_this (a.Start module_name function vs) to v e h = absurd (cc e)
+  sends_this a.More to v e h = absurd (cc e)
+  sends_this a.Done to v e h = absurd (cc e)
+  sends_this (a.Raised reason) to v e h = absurd (cc e)
+
+  pub shows_this : (ask : asking.Asking) (v : Seen (List Bool)) → shown_by (Some ask) ≡ Some v → IsAsking code k ask → AsksFor code k (Show (value v))
+  shows_this (a.Show u) v e h = let same : u ≡ v = cc e in subst (λ (x : Seen (List Bool)). AsksFor code k (Show (value x))) same h
+  shows_this (a.Send receiver u) v e h = absurd (cc e)
+  shows_this (a.Start module_name function vs) v e h = absurd (cc e)
+  shows_this a.More v e h = absurd (cc e)
+  shows_this a.Done v e h = absurd (cc e)
+  shows_this (a.Raised reason) v e h = absurd (cc e)
+
+-- ---- A machine in which the entry's process stands so
+
+at_ask : (s : Setting) (entry : Entry) (l : Local) (vs : List Value) (machine : m.Machine) → IsIn s entry (m.Running l vs) machine → m.ask_at machine (pid_of entry) ≡ Some (ask_of s.code l)
+at_ask s entry l vs machine i = ap (m.ask_of_process machine.code) i.stands ∙ ap (λ (x : Module). Some (ask_of x l)) i.code
+
+fits_same : (n : ℕ) (x : m.Machine) → m.if_fits (nat_eq n n) x ≡ Some x
+fits_same n x = ap (λ (b : Bool). m.if_fits b x) (eq-eqb n n refl)
+
+-- ---- Actors
+
+module _ {P : Type 0} (code_of : P → Module) (local_of : P → Local) (waits_of : P → Type 0) where
+  asks_already : (actor : Actor P) (o : Option asking.Asking) → actor.ask ≡ o → is_some o ≡ true → StandsAt code_of local_of waits_of actor.process o → Settles code_of local_of waits_of actor actor
+  asks_already actor (Some ask) e t h = record { code = refl; runs = none _ _; unseen = refl; ask = ask; is = e; waits = h.0; asks = h.1 }
+  asks_already actor None e t h = absurd (cc t)
+
+  -- an actor whose ask is known stands at it
+  pub settled : (actor : Actor P) → is_some actor.ask ≡ true → StandsAt code_of local_of waits_of actor.process actor.ask → Settles code_of local_of waits_of actor actor
+  settled actor t h = asks_already actor actor.ask refl t h
+
+  -- what a settled actor plays it played before
+  pub kept : (code : Module) (l : Local) (vs : List Value) (old new : Actor P) → Plays code_of local_of waits_of code l vs old → Settles code_of local_of waits_of old new → Plays code_of local_of waits_of code l vs new
+  kept code l vs old new p s = record {
+    code = s.code ∙ p.code;
+    runs = on_from code (code_of old.process) l (local_of old.process) (local_of new.process) p.code p.runs s.runs;
+    unseen = p.unseen ∙ ap (map value) (sym s.unseen);
+    stands = subst (λ (o : Option asking.Asking). StandsAt code_of local_of waits_of new.process o) (sym s.is) (s.waits, s.asks);
+  }
+
+  asks_in : (code : Module) (l : Local) (vs : List Value) (old new : Actor P) → Plays code_of local_of waits_of code l vs old → (s : Settles code_of local_of waits_of old new) → IsAsking code (local_of new.process) s.ask
+  asks_in code l vs old new p s = subst (λ (x : Module). IsAsking x (local_of new.process) s.ask) (s.code ∙ p.code) s.asks
+
+  -- as what the process goes on that is answered
+  went : (code : Module) (l : Local) (vs : List Value) (mid new : Actor P) (ask : Ask) (v : Value) → Plays code_of local_of waits_of code l vs mid → AsksFor code (local_of mid.process) ask → Answers code_of local_of v mid new
+      → (next : Value → Local) × (ask_of code l ≡ Wants ask next) × Plays code_of local_of waits_of code (next v) vs new
+  went code l vs mid new ask v p h w =
+      let goes : local_of new.process ≡ h.next v = w.goes ask h.next (ap (λ (x : Module). next_of x (local_of mid.process)) p.code ∙ h.asks) in (
+        h.next,
+        asked_for code l (local_of mid.process) ask p.runs h,
+        record {
+          code = w.code ∙ p.code;
+          runs = subst (λ (x : Local). Runs code (h.next v) x) (sym goes) (none code (h.next v));
+          unseen = p.unseen ∙ ap (map value) (sym w.unseen);
+          stands = subst (λ (o : Option asking.Asking). StandsAt code_of local_of waits_of new.process o) (sym w.ask) tt;
+        },
+      )
+
+  -- ---- Messages
+
+  pub send_none : (s : Setting) (pid to : ℕ) (old new : Actor P) → Settles code_of local_of waits_of old new → message_to to new.ask ≡ None → Acts code_of local_of waits_of s (Sent pid to) old Refused new
+  send_none s pid to old new g e (m.Running l vs) h =
+      let k = kept s.code l vs old new h g in
+      let t = tells s.code l (local_of new.process) k.runs g.ask (asks_in s.code l vs old new h g) in
+      let at : message_to to (Some g.ask) ≡ None = ap (message_to to) (sym g.is) ∙ e in
+      (k, λ machine i. ap (m.sends machine pid to) (at_ask s (Sent pid to) l vs machine i) ∙ send_refused g.ask (ask_of s.code l) to at t machine pid)
+  send_none s pid to old new g e (m.Over how) h = absurd h
+  send_none s pid to old new g e (m.Left how) h = absurd h
+
+  pub send_some : (s : Setting) (pid to : ℕ) (v : Seen (List Bool)) (old mid new : Actor P) → Settles code_of local_of waits_of old mid → message_to to mid.ask ≡ Some v → Answers code_of local_of (value v) mid new
+      → Acts code_of local_of waits_of s (Sent pid to) old (Goes (f.Delivers to v)) new
+  send_some s pid to v old mid new g e w (m.Running l vs) h =
+      let k = kept s.code l vs old mid h g in
+      let at : message_to to (Some g.ask) ≡ Some v = ap (message_to to) (sym g.is) ∙ e in
+      let this = sends_this s.code (local_of mid.process) g.ask to v at (asks_in s.code l vs old mid h g) in
+      let d = went s.code l vs mid new (SendTo to (value v)) (value v) k this w in (
+        m.Running (d.0 (value v)) vs,
+        d.2,
+        tt,
+        λ machine i.
+            ap (m.sends machine pid to) (at_ask s (Sent pid to) l vs machine i ∙ ap Some d.1)
+            ∙ fits_same to _
+            ∙ ap (λ (us : List Value). let n = m.with_process machine pid (m.Running (d.0 (value v)) us) in Some (m.delivered n to (value v) (m.process_at n to))) (ap m.unseen_of i.stands),
+      )
+  send_some s pid to v old mid new g e w (m.Over how) h = absurd h
+  send_some s pid to v old mid new g e w (m.Left how) h = absurd h
+
+  pub send_awaits : (to : ℕ) (v : Seen (List Bool)) (old mid : Actor P) → (g : Settles code_of local_of waits_of old mid) → message_to to mid.ask ≡ Some v → AwaitsAnswer (code_of mid.process) (local_of mid.process)
+  send_awaits to v old mid g e =
+      record { ask = SendTo to (value v); asks = sends_this (code_of mid.process) (local_of mid.process) g.ask to v (ap (message_to to) (sym g.is) ∙ e) g.asks }
+
+  -- ---- Displays
+
+  pub show_none : (s : Setting) (pid : ℕ) (old new : Actor P) → Settles code_of local_of waits_of old new → shown_by new.ask ≡ None → Acts code_of local_of waits_of s (Shown pid) old Refused new
+  show_none s pid old new g e (m.Running l vs) h =
+      let k = kept s.code l vs old new h g in
+      let t = tells s.code l (local_of new.process) k.runs g.ask (asks_in s.code l vs old new h g) in
+      let at : shown_by (Some g.ask) ≡ None = ap shown_by (sym g.is) ∙ e in
+      (k, λ machine i. ap (m.shows machine pid) (at_ask s (Shown pid) l vs machine i) ∙ show_refused g.ask (ask_of s.code l) at t machine pid)
+  show_none s pid old new g e (m.Over how) h = absurd h
+  show_none s pid old new g e (m.Left how) h = absurd h
+
+  pub show_some : (s : Setting) (pid : ℕ) (v : Seen (List Bool)) (answer : Value) (old mid new : Actor P) → Settles code_of local_of waits_of old mid → shown_by mid.ask ≡ Some v → answer ≡ truth true → Answers code_of local_of answer mid new
+      → Acts code_of local_of waits_of s (Shown pid) old (Goes (f.Shows v)) new
+  show_some s pid v answer old mid new g e is w (m.Running l vs) h =
+      let k = kept s.code l vs old mid h g in
+      let at : shown_by (Some g.ask) ≡ Some v = ap shown_by (sym g.is) ∙ e in
+      let this = shows_this s.code (local_of mid.process) g.ask v at (asks_in s.code l vs old mid h g) in
+      let d = went s.code l vs mid new (Show (value v)) answer k this w in (
+        m.Running (d.0 answer) vs,
+        d.2,
+        tt,
+        λ machine i.
+            ap (m.shows machine pid) (at_ask s (Shown pid) l vs machine i ∙ ap Some d.1)
+            ∙ ap (λ (x : Value). Some (m.with_shown (m.with_process machine pid (m.Running (d.0 x) (m.unseen_at machine pid))) (value v))) (sym is)
+            ∙ ap (λ (us : List Value). Some (m.with_shown (m.with_process machine pid (m.Running (d.0 answer) us)) (value v))) (ap m.unseen_of i.stands),
+      )
+  show_some s pid v answer old mid new g e is w (m.Over how) h = absurd h
+  show_some s pid v answer old mid new g e is w (m.Left how) h = absurd h
+
+  pub show_awaits : (v : Seen (List Bool)) (old mid : Actor P) → (g : Settles code_of local_of waits_of old mid) → shown_by mid.ask ≡ Some v → AwaitsAnswer (code_of mid.process) (local_of mid.process)
+  show_awaits v old mid g e =
+      record { ask = Show (value v); asks = shows_this (code_of mid.process) (local_of mid.process) g.ask v (ap shown_by (sym g.is) ∙ e) g.asks }
+
+  -- ---- Ends
+
+  pub end_none : (s : Setting) (code : Module) (pid : ℕ) (old new : Actor P) → s.code ≡ code → Settles code_of local_of waits_of old new → ended_by code new.ask ≡ None → Acts code_of local_of waits_of s (Ended pid) old Refused new
+  end_none s code pid old new same g e (m.Running l vs) h =
+      let k = kept s.code l vs old new h g in
+      let t = tells s.code l (local_of new.process) k.runs g.ask (asks_in s.code l vs old new h g) in
+      let at : ended_by code (Some g.ask) ≡ None = ap (ended_by code) (sym g.is) ∙ e in
+      (k, λ machine i. ap (m.ends machine pid) (at_ask s (Ended pid) l vs machine i) ∙ end_refused code g.ask (ask_of s.code l) at t machine pid)
+  end_none s code pid old new same g e (m.Over how) h = absurd h
+  end_none s code pid old new same g e (m.Left how) h = absurd h
+
+  pub end_some : (s : Setting) (code : Module) (pid : ℕ) (ending : Ending) (old new : Actor P) → s.code ≡ code → Settles code_of local_of waits_of old new → ended_by code new.ask ≡ Some ending
+      → Acts code_of local_of waits_of s (Ended pid) old (Ends ending) new
+  end_some s code pid ending old new same g e (m.Running l vs) h =
+      let k = kept s.code l vs old new h g in
+      let t = tells s.code l (local_of new.process) k.runs g.ask (asks_in s.code l vs old new h g) in
+      let at : ended_by code (Some g.ask) ≡ Some ending = ap (ended_by code) (sym g.is) ∙ e in
+      let d = end_told code g.ask (ask_of s.code l) ending at t in
+      (d.0, d.1 ∙ ap (λ (x : Module). ending_of x d.0) (sym same), λ machine i. ap (m.ends machine pid) (at_ask s (Ended pid) l vs machine i) ∙ d.2 machine pid)
+  end_some s code pid ending old new same g e (m.Over how) h = absurd h
+  end_some s code pid ending old new same g e (m.Left how) h = absurd h

@@ -1,0 +1,4 @@
+pub mod Acts
+pub mod Arities
+pub mod Paths
+pub mod Places

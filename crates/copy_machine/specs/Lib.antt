@@ -1,0 +1,5 @@
+pub mod Asks
+pub mod Entering
+pub mod Following
+pub mod Reaching
+pub mod Starting

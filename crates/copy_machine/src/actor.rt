@@ -1,0 +1,98 @@
+ghost use Rattle.std.specs.Prelude.{◌≡◌, ℕ, IfOk};
+ghost use Rattle.code_tree.specs.Reading.{module_of};
+ghost use Rattle.code_tree.specs.PlainTerms.{value};
+ghost use Rattle.process_acts.specs.Acts.{AwaitsAnswer};
+ghost use Rattle.copy_machine.specs.Following.{StandsAt};
+ghost use Rattle.copy_machine.specs.Entering.{Acts, Answers, Setting, Settles};
+
+use crate::act::{Act, Effect};
+use crate::asks::{ended_by, message_to, shown_by};
+use crate::next_ask::next_ask;
+use crate::world::World;
+use code_tree::PlainTerm;
+use process_acts::{Asking, Process};
+use shares::Share;
+use std::alloc::AllocError;
+use term_value::{Entry, Term};
+
+/// A process that runs.
+#[derive(Drop)]
+pub struct Actor<P> {
+    pub process: P,
+    /// The messages that it hasn't seen, the oldest first.
+    pub unseen: Vec<PlainTerm>,
+    /// Its ask, where it stands at one.
+    pub ask: Option<Asking>,
+}
+
+/// The number of the atom `true`.
+const TRUE: u32 = 11;
+
+impl<P: Process + Drop> Actor<P> {
+    /// Runs to its ask.
+    pub fn settle(&mut self) -> Result<(), AllocError>
+        requires { StandsAt P.code P.local P.waits self.old.process self.old.ask }
+        ensures { IfOk result (λ _. Settles P.code P.local P.waits self.old self.new) }
+    {
+        if self.ask.is_some() {
+            return Ok(());
+        }
+        let ask = next_ask(&mut self.process)?;
+        self.ask = Some(ask);
+        Ok(())
+    }
+
+    // Goes on with the answer to its ask.
+    fn answer(&mut self, answer: PlainTerm)
+        requires waits { P.waits self.old.process }
+        requires awaits { AwaitsAnswer (P.code self.old.process) (P.local self.old.process) }
+        ensures { Answers P.code P.local (value answer) self.old self.new }
+    {
+        self.process.answer(answer);
+        self.ask = None;
+    }
+
+    // Sends a message to this pid.
+    fn send(&mut self, to: u32) -> Result<Act<P>, AllocError>
+        requires { StandsAt P.code P.local P.waits self.old.process self.old.ask }
+        ensures { IfOk result (λ act. (s : Setting) (pid : ℕ) → Acts P.code P.local P.waits s (Entry.Sent pid to) self.old act self.new) }
+    {
+        self.settle()?;
+        match message_to(&self.ask, to)? {
+            None => Ok(Act::Refused),
+            Some(message) => {
+                let copy = message.share()?;
+                self.answer(copy);
+                Ok(Act::Goes(Effect::Delivers(to, message)))
+            }
+        }
+    }
+
+    // Displays a value.
+    fn show(&mut self) -> Result<Act<P>, AllocError>
+        requires { StandsAt P.code P.local P.waits self.old.process self.old.ask }
+        ensures { IfOk result (λ act. (s : Setting) (pid : ℕ) → Acts P.code P.local P.waits s (Entry.Shown pid) self.old act self.new) }
+    {
+        self.settle()?;
+        match shown_by(&self.ask)? {
+            None => Ok(Act::Refused),
+            Some(shown) => {
+                let yes = PlainTerm::of(Term::Atom(TRUE));
+                self.answer(yes);
+                Ok(Act::Goes(Effect::Shows(shown)))
+            }
+        }
+    }
+
+    // Ends.
+    fn end(&mut self, world: &World<'_>) -> Result<Act<P>, AllocError>
+        requires { StandsAt P.code P.local P.waits self.old.process self.old.ask }
+        ensures { IfOk result (λ act. (s : Setting) (pid : ℕ) → s.code ≡ module_of world.now.code.now → Acts P.code P.local P.waits s (Entry.Ended pid) self.old act self.new) }
+    {
+        self.settle()?;
+        match ended_by(world, &self.ask)? {
+            None => Ok(Act::Refused),
+            Some(ending) => Ok(Act::Ends(ending)),
+        }
+    }
+}
