@@ -1,25 +1,28 @@
 -- What comes of an actor's acts.
-use Rattle.std.proofs.Common.{◌≡◌, ℕ, Bool, true, false, List, map, Option, Some, None, is_some, refl, sym, ap, ◌∙◌, subst}
-use Rattle.std.specs.Prelude.{nat_eq}
+use Rattle.std.proofs.Common.{◌≡◌, ℕ, ◌+◌, ◌≤◌, Bool, true, false, ◌&&◌, List, [], ◌++◌, length, map, Option, Some, None, is_some, refl, sym, ap, ◌∙◌, subst, arith}
+use Rattle.std.specs.Prelude.{nat_eq, nat_le}
 use Rattle.std.proofs.lemmas.Bool.{eqb-true, eq-eqb}
+use Rattle.std.proofs.lemmas.List.{length-map}
 use Rattle.term_value.specs.Result.{truth}
 use Rattle.term_value.specs.Texts.{text}
-use Rattle.term_value.specs.Value.{Value, Values}
+use Rattle.term_value.specs.Value.{Value, VList, Values}
 use Rattle.term_value.specs.Seen.{Seen}
 use Rattle.term_value.specs.Tree.{Module}
 use Rattle.term_value.specs.Step.{Ask, SendTo, Show, Start, name_in}
-use Rattle.term_value.specs.Local.{Local, next_of, NextAsk, Wants, WantsMore, EndsDone, EndsRaised, asked}
+use Rattle.term_value.specs.Local.{Local, Next, Asking, ForMore, Done, Raised, next_of, NextAsk, Wants, WantsMore, EndsDone, EndsRaised, Unfinished, asked}
 use Rattle.term_value.specs.AskOf.{ask_of}
 use Rattle.term_value.specs.Machine as m
-use Rattle.term_value.specs.declared.entry.Entry.TheVariants.{Sent, Shown, Ended}
+use Rattle.term_value.specs.declared.entry.Entry.TheVariants.{Sent, Saw, Shown, Started, Full, Ended, Stopped, Gone}
 use Rattle.term_value.specs.declared.entry.Entry.{Entry}
 use Rattle.term_layers.proofs.Runs.{ask_reached}
 use Rattle.code_tree.specs.PlainTerms.{value}
-use Rattle.process_acts.specs.Acts.{Runs, AsksFor, AsksStart, AwaitsAnswer, IsAsking}
+use Rattle.process_acts.specs.Acts as acts
+use Rattle.process_acts.specs.Acts.{Runs, AsksFor, AsksStart, AwaitsAnswer, AwaitsMessages, IsAsking}
 use Rattle.process_acts.specs.declared.asking.Asking as asking
 use Rattle.process_acts.specs.declared.asking.Asking.TheVariants as a
-use Rattle.copy_machine.specs.Asks.{if_named, message_to, shown_by, ended_by, arguments_of}
-use Rattle.copy_machine.specs.Following.{StandsAt, Plays, ending_of}
+use Rattle.copy_machine.specs.Asks.{if_named, message_to, shown_by, is_more, ended_by, arguments_of}
+use Rattle.copy_machine.specs.Reaching.{Reaches}
+use Rattle.copy_machine.specs.Following.{StandsAt, Plays, IsRowOf, ending_of}
 use Rattle.copy_machine.specs.Entering.{Setting, IsIn, Acts, Settles, Answers, pid_of}
 use Rattle.copy_machine.specs.declared.act.Act.TheVariants.{Refused, Goes, Ends}
 use Rattle.copy_machine.specs.declared.act.Effect.TheVariants as f
@@ -55,6 +58,9 @@ tells code l k r (a.Raised reason) h = sym (ask_reached code l k r.cost r.made (
 
 -- ---- Which entries no machine allows
 
+fails_if : (b : Bool) (x : m.Machine) → b ≡ false → m.if_fits b x ≡ None
+fails_if b x e = ap (λ (y : Bool). m.if_fits y x) e
+
 refused_if : (b : Bool) (v : Seen (List Bool)) (x : m.Machine) → if_named b v ≡ None → m.if_fits b x ≡ None
 refused_if true v x e = absurd (cc e)
 refused_if false v x e = refl
@@ -75,6 +81,14 @@ show_refused a.More n e t machine pid = ap (λ (x : NextAsk). m.shows machine pi
 show_refused a.Done n e t machine pid = ap (λ (x : NextAsk). m.shows machine pid (Some x)) t
 show_refused (a.Raised reason) n e t machine pid = ap (λ (x : NextAsk). m.shows machine pid (Some x)) t
 
+see_refused : (count : ℕ) (ask : asking.Asking) (n : NextAsk) → is_more (Some ask) ≡ false → Tells ask n → (machine : m.Machine) (pid : ℕ) → m.sees machine pid count (Some n) ≡ None
+see_refused count (a.Send receiver v) n e t machine pid = ap (λ (x : NextAsk). m.sees machine pid count (Some x)) t.1
+see_refused count (a.Show v) n e t machine pid = ap (λ (x : NextAsk). m.sees machine pid count (Some x)) t.1
+see_refused count (a.Start module_name function vs) n e t machine pid = ap (λ (x : NextAsk). m.sees machine pid count (Some x)) t.1
+see_refused count a.More n e t machine pid = absurd (cc e)
+see_refused count a.Done n e t machine pid = ap (λ (x : NextAsk). m.sees machine pid count (Some x)) t
+see_refused count (a.Raised reason) n e t machine pid = ap (λ (x : NextAsk). m.sees machine pid count (Some x)) t
+
 end_refused : (code : Module) (ask : asking.Asking) (n : NextAsk) → ended_by code (Some ask) ≡ None → Tells ask n → (machine : m.Machine) (pid : ℕ) → m.ends machine pid (Some n) ≡ None
 end_refused code (a.Send receiver v) n e t machine pid = ap (λ (x : NextAsk). m.ends machine pid (Some x)) t.1
 end_refused code (a.Show v) n e t machine pid = ap (λ (x : NextAsk). m.ends machine pid (Some x)) t.1
@@ -92,6 +106,17 @@ end_told code a.More n ending e t = absurd (cc e)
 end_told code a.Done n ending e t = let same : ending ≡ ends.Normal = cc e in (m.Normal, same, λ machine pid. ap (λ (x : NextAsk). m.ends machine pid (Some x)) t)
 end_told code (a.Raised reason) n ending e t =
     let same : ending ≡ ends.Exit (text (name_in code) (value reason)) = cc e in (m.Exit (value reason), same, λ machine pid. ap (λ (x : NextAsk). m.ends machine pid (Some x)) t)
+
+more_told : (code : Module) (k : Local) (ask : asking.Asking) → is_more (Some ask) ≡ true → IsAsking code k ask → AwaitsMessages code k
+more_told code k (a.Send receiver v) e h = absurd (cc e)
+more_told code k (a.Show v) e h = absurd (cc e)
+more_told code k (a.Start module_name function vs) e h = absurd (cc e)
+more_told code k a.More e h = h
+more_told code k a.Done e h = absurd (cc e)
+more_told code k (a.Raised reason) e h = absurd (cc e)
+
+more_for : (code : Module) (l k : Local) → Runs code l k → (h : AwaitsMessages code k) → ask_of code l ≡ WantsMore h.state
+more_for code l k r h = sym (ask_reached code l k r.cost r.made (WantsMore h.state) r.path (ap asked h.asks))
 
 -- ---- What is asked for where the ask is of this kind
 
@@ -251,3 +276,61 @@ module _ {P : Type 0} (code_of : P → Module) (local_of : P → Local) (waits_o
       (d.0, d.1 ∙ ap (λ (x : Module). ending_of x d.0) (sym same), λ machine i. ap (m.ends machine pid) (at_ask s (Ended pid) l vs machine i) ∙ d.2 machine pid)
   end_some s code pid ending old new same g e (m.Over how) h = absurd h
   end_some s code pid ending old new same g e (m.Left how) h = absurd h
+
+  -- ---- Messages that are seen
+
+  pub see_none : (s : Setting) (pid count : ℕ) (old new : Actor P) → Settles code_of local_of waits_of old new → is_more new.ask ≡ false → Acts code_of local_of waits_of s (Saw pid count) old Refused new
+  see_none s pid count old new g e (m.Running l vs) h =
+      let k = kept s.code l vs old new h g in
+      let t = tells s.code l (local_of new.process) k.runs g.ask (asks_in s.code l vs old new h g) in
+      let at : is_more (Some g.ask) ≡ false = ap is_more (sym g.is) ∙ e in
+      (k, λ machine i. ap (m.sees machine pid count) (at_ask s (Saw pid count) l vs machine i) ∙ see_refused count g.ask (ask_of s.code l) at t machine pid)
+  see_none s pid count old new g e (m.Over how) h = absurd h
+  see_none s pid count old new g e (m.Left how) h = absurd h
+
+  pub see_other : (s : Setting) (pid count : ℕ) (old new : Actor P) → Settles code_of local_of waits_of old new → is_more new.ask ≡ true → (nat_eq count (length new.unseen.items) && nat_le 1 count) ≡ false
+      → Acts code_of local_of waits_of s (Saw pid count) old Refused new
+  see_other s pid count old new g e fails (m.Running l vs) h =
+      let k = kept s.code l vs old new h g in
+      let at : is_more (Some g.ask) ≡ true = ap is_more (sym g.is) ∙ e in
+      let w = more_told s.code (local_of new.process) g.ask at (asks_in s.code l vs old new h g) in
+      let n : ask_of s.code l ≡ WantsMore w.state = more_for s.code l (local_of new.process) k.runs w in (
+        k,
+        λ machine i.
+            let many : length (m.unseen_at machine pid) ≡ length new.unseen.items = ap length (ap m.unseen_of i.stands ∙ k.unseen) ∙ length-map new.unseen.items value in
+            ap (m.sees machine pid count) (at_ask s (Saw pid count) l vs machine i ∙ ap Some n)
+            ∙ fails_if _ _ (ap (λ (x : ℕ). nat_eq count x && nat_le 1 count) many ∙ fails),
+      )
+  see_other s pid count old new g e fails (m.Over how) h = absurd h
+  see_other s pid count old new g e fails (m.Left how) h = absurd h
+
+  pub see_some : (s : Setting) (pid count : ℕ) (messages : List (Seen (List Bool))) (old mid new : Actor P) → Settles code_of local_of waits_of old mid → is_more mid.ask ≡ true → (nat_eq count (length mid.unseen.items) && nat_le 1 count) ≡ true
+      → messages ≡ mid.unseen.items → code_of new.process ≡ code_of mid.process → acts.Saw (code_of mid.process) (local_of mid.process) (map value messages) (local_of new.process) → new.unseen.items ≡ [] → new.ask ≡ None
+      → Acts code_of local_of waits_of s (Saw pid count) old (Goes f.Nothing) new
+  see_some s pid count messages old mid new g e holds are code saw none_left no_ask (m.Running l vs) h =
+      let k = kept s.code l vs old mid h g in
+      let at : is_more (Some g.ask) ≡ true = ap is_more (sym g.is) ∙ e in
+      let w = more_told s.code (local_of mid.process) g.ask at (asks_in s.code l vs old mid h g) in
+      let n : ask_of s.code l ≡ WantsMore w.state = more_for s.code l (local_of mid.process) k.runs w in
+      let these : map value messages ≡ vs = ap (map value) are ∙ sym k.unseen in
+      let goes : local_of new.process ≡ record w.state { seen = w.state.seen ++ vs } =
+      saw w.state (ap (λ (x : Module). next_of x (local_of mid.process)) k.code ∙ w.asks) ∙ ap (λ (us : List Value). record w.state { seen = w.state.seen ++ us }) these in (
+        m.Running (record w.state { seen = w.state.seen ++ vs }) [],
+        record {
+          code = code ∙ k.code;
+          runs = subst (λ (x : Local). Runs s.code (record w.state { seen = w.state.seen ++ vs }) x) (sym goes) (none s.code (record w.state { seen = w.state.seen ++ vs }));
+          unseen = ap (map value) (sym none_left);
+          stands = subst (λ (o : Option asking.Asking). StandsAt code_of local_of waits_of new.process o) (sym no_ask) tt;
+        },
+        tt,
+        λ machine i.
+            let many : length (m.unseen_at machine pid) ≡ length mid.unseen.items = ap length (ap m.unseen_of i.stands ∙ k.unseen) ∙ length-map mid.unseen.items value in
+            ap (m.sees machine pid count) (at_ask s (Saw pid count) l vs machine i ∙ ap Some n)
+            ∙ ap (λ (b : Bool). m.if_fits b (m.with_process machine pid (m.Running (record w.state { seen = w.state.seen ++ m.unseen_at machine pid }) []))) (ap (λ (x : ℕ). nat_eq count x && nat_le 1 count) many ∙ holds)
+            ∙ ap (λ (us : List Value). Some (m.with_process machine pid (m.Running (record w.state { seen = w.state.seen ++ us }) []))) (ap m.unseen_of i.stands),
+      )
+  see_some s pid count messages old mid new g e holds are code saw none_left no_ask (m.Over how) h = absurd h
+  see_some s pid count messages old mid new g e holds are code saw none_left no_ask (m.Left how) h = absurd h
+
+  pub more_awaits : (old mid : Actor P) → (g : Settles code_of local_of waits_of old mid) → is_more mid.ask ≡ true → AwaitsMessages (code_of mid.process) (local_of mid.process)
+  more_awaits old mid g e = more_told (code_of mid.process) (local_of mid.process) g.ask (ap is_more (sym g.is) ∙ e) g.asks

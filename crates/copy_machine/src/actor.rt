@@ -1,4 +1,4 @@
-ghost use Rattle.std.specs.Prelude.{◌≡◌, ℕ, IfOk};
+ghost use Rattle.std.specs.Prelude.{◌≡◌, ◌&&◌, ℕ, IfOk, nat_eq, nat_le};
 ghost use Rattle.code_tree.specs.Reading.{module_of};
 ghost use Rattle.code_tree.specs.PlainTerms.{value};
 ghost use Rattle.process_acts.specs.Acts.{AwaitsAnswer};
@@ -6,13 +6,14 @@ ghost use Rattle.copy_machine.specs.Following.{StandsAt};
 ghost use Rattle.copy_machine.specs.Entering.{Acts, Answers, Setting, Settles};
 
 use crate::act::{Act, Effect};
-use crate::asks::{ended_by, message_to, shown_by};
+use crate::asks::{ended_by, is_more, message_to, shown_by};
 use crate::next_ask::next_ask;
 use crate::world::World;
 use code_tree::PlainTerm;
 use process_acts::{Asking, Process};
 use shares::Share;
-use std::alloc::AllocError;
+use std::alloc::{AllocError, Global};
+use std::mem;
 use term_value::{Entry, Term};
 
 /// A process that runs.
@@ -27,6 +28,13 @@ pub struct Actor<P> {
 
 /// The number of the atom `true`.
 const TRUE: u32 = 11;
+
+// Whether the count is that of the unseen messages, of which there are some.
+fn is_all(count: u32, unseen: usize) -> bool
+    ensures { result ≡ (nat_eq count unseen && nat_le 1 count) }
+{
+    count as usize == unseen && 1 <= count
+}
 
 impl<P: Process + Drop> Actor<P> {
     /// Runs to its ask.
@@ -93,6 +101,26 @@ impl<P: Process + Drop> Actor<P> {
         match ended_by(world, &self.ask)? {
             None => Ok(Act::Refused),
             Some(ending) => Ok(Act::Ends(ending)),
+        }
+    }
+
+    // Sees all unseen messages, so many.
+    fn see(&mut self, alloc: Global, count: u32) -> Result<Act<P>, AllocError>
+        requires { StandsAt P.code P.local P.waits self.old.process self.old.ask }
+        ensures { IfOk result (λ act. (s : Setting) (pid : ℕ) → Acts P.code P.local P.waits s (Entry.Saw pid count) self.old act self.new) }
+    {
+        self.settle()?;
+        if is_more(&self.ask) {
+            if is_all(count, self.unseen.as_slice().len()) {
+                let messages = mem::replace(&mut self.unseen, Vec::new(alloc));
+                self.process.see(messages)?;
+                self.ask = None;
+                Ok(Act::Goes(Effect::Nothing))
+            } else {
+                Ok(Act::Refused)
+            }
+        } else {
+            Ok(Act::Refused)
         }
     }
 }
