@@ -3,13 +3,14 @@ use Rattle.std.proofs.Common.{◌≡◌, ℕ, ◌+◌, ◌≤◌, Bool, true, fa
 use Rattle.std.specs.Prelude.{nat_eq, nat_le}
 use Rattle.std.proofs.lemmas.Bool.{eqb-true, eq-eqb}
 use Rattle.std.proofs.lemmas.List.{length-map}
-use Rattle.term_value.specs.Result.{truth}
+use Rattle.term_value.specs.Result.{Limit, truth}
 use Rattle.term_value.specs.Texts.{text}
-use Rattle.term_value.specs.Value.{Value, VList, Values}
+use Rattle.term_value.specs.Value.{Value, VAtom, VList, Values}
+use Rattle.erl_syntax.specs.Atoms.{a_undef}
 use Rattle.term_value.specs.Seen.{Seen}
 use Rattle.term_value.specs.Tree.{Module}
 use Rattle.term_value.specs.Step.{Ask, SendTo, Show, Start, name_in}
-use Rattle.term_value.specs.Local.{Local, Next, Asking, ForMore, Done, Raised, next_of, NextAsk, Wants, WantsMore, EndsDone, EndsRaised, Unfinished, asked}
+use Rattle.term_value.specs.Local.{Local, Fell, Next, Asking, ForMore, Done, Raised, next_of, NextAsk, Wants, WantsMore, EndsDone, EndsRaised, Unfinished, asked}
 use Rattle.term_value.specs.AskOf.{ask_of}
 use Rattle.term_value.specs.Machine as m
 use Rattle.term_value.specs.declared.entry.Entry.TheVariants.{Sent, Saw, Shown, Started, Full, Ended, Stopped, Gone}
@@ -20,7 +21,7 @@ use Rattle.process_acts.specs.Acts as acts
 use Rattle.process_acts.specs.Acts.{Runs, AsksFor, AsksStart, AwaitsAnswer, AwaitsMessages, IsAsking}
 use Rattle.process_acts.specs.declared.asking.Asking as asking
 use Rattle.process_acts.specs.declared.asking.Asking.TheVariants as a
-use Rattle.copy_machine.specs.Asks.{if_named, message_to, shown_by, is_more, ended_by, arguments_of}
+use Rattle.copy_machine.specs.Asks.{if_named, message_to, shown_by, is_start, is_more, ended_by, arguments_of}
 use Rattle.copy_machine.specs.Reaching.{Reaches}
 use Rattle.copy_machine.specs.Following.{StandsAt, Plays, IsRowOf, ending_of}
 use Rattle.copy_machine.specs.Entering.{Setting, IsIn, Acts, Settles, Answers, pid_of}
@@ -60,6 +61,9 @@ tells code l k r (a.Raised reason) h = sym (ask_reached code l k r.cost r.made (
 
 fails_if : (b : Bool) (x : m.Machine) → b ≡ false → m.if_fits b x ≡ None
 fails_if b x e = ap (λ (y : Bool). m.if_fits y x) e
+
+holds_if : (b : Bool) (x : m.Machine) → b ≡ true → m.if_fits b x ≡ Some x
+holds_if b x e = ap (λ (y : Bool). m.if_fits y x) e
 
 refused_if : (b : Bool) (v : Seen (List Bool)) (x : m.Machine) → if_named b v ≡ None → m.if_fits b x ≡ None
 refused_if true v x e = absurd (cc e)
@@ -117,6 +121,23 @@ more_told code k (a.Raised reason) e h = absurd (cc e)
 
 more_for : (code : Module) (l k : Local) → Runs code l k → (h : AwaitsMessages code k) → ask_of code l ≡ WantsMore h.state
 more_for code l k r h = sym (ask_reached code l k r.cost r.made (WantsMore h.state) r.path (ap asked h.asks))
+
+start_told : (code : Module) (k : Local) (ask : asking.Asking) → is_start (Some ask) ≡ true → IsAsking code k ask
+    → (module_name : ℕ) × (function : ℕ) × (arguments : Values) × AsksFor code k (Start module_name function arguments)
+start_told code k (a.Send receiver v) e h = absurd (cc e)
+start_told code k (a.Show v) e h = absurd (cc e)
+start_told code k (a.Start module_name function vs) e h = (module_name, function, arguments_of (value vs), start_asked code k module_name function (value vs) h)
+start_told code k a.More e h = absurd (cc e)
+start_told code k a.Done e h = absurd (cc e)
+start_told code k (a.Raised reason) e h = absurd (cc e)
+
+fill_refused : (ask : asking.Asking) (n : NextAsk) → is_start (Some ask) ≡ false → Tells ask n → (machine : m.Machine) (pid : ℕ) → m.fills machine pid (Some n) ≡ None
+fill_refused (a.Send receiver v) n e t machine pid = ap (λ (x : NextAsk). m.fills machine pid (Some x)) t.1
+fill_refused (a.Show v) n e t machine pid = ap (λ (x : NextAsk). m.fills machine pid (Some x)) t.1
+fill_refused (a.Start module_name function vs) n e t machine pid = absurd (cc e)
+fill_refused a.More n e t machine pid = ap (λ (x : NextAsk). m.fills machine pid (Some x)) t.1
+fill_refused a.Done n e t machine pid = ap (λ (x : NextAsk). m.fills machine pid (Some x)) t
+fill_refused (a.Raised reason) n e t machine pid = ap (λ (x : NextAsk). m.fills machine pid (Some x)) t
 
 -- ---- What is asked for where the ask is of this kind
 
@@ -334,3 +355,55 @@ module _ {P : Type 0} (code_of : P → Module) (local_of : P → Local) (waits_o
 
   pub more_awaits : (old mid : Actor P) → (g : Settles code_of local_of waits_of old mid) → is_more mid.ask ≡ true → AwaitsMessages (code_of mid.process) (local_of mid.process)
   more_awaits old mid g e = more_told (code_of mid.process) (local_of mid.process) g.ask (ap is_more (sym g.is) ∙ e) g.asks
+
+  -- ---- Where no more processes may be started
+
+  pub fill_none : (s : Setting) (pid : ℕ) (old new : Actor P) → Settles code_of local_of waits_of old new → is_start new.ask ≡ false → Acts code_of local_of waits_of s (Full pid) old Refused new
+  fill_none s pid old new g e (m.Running l vs) h =
+      let k = kept s.code l vs old new h g in
+      let t = tells s.code l (local_of new.process) k.runs g.ask (asks_in s.code l vs old new h g) in
+      let at : is_start (Some g.ask) ≡ false = ap is_start (sym g.is) ∙ e in
+      (k, λ machine i. ap (m.fills machine pid) (at_ask s (Full pid) l vs machine i) ∙ fill_refused g.ask (ask_of s.code l) at t machine pid)
+  fill_none s pid old new g e (m.Over how) h = absurd h
+  fill_none s pid old new g e (m.Left how) h = absurd h
+
+  pub fill_early : (s : Setting) (pid : ℕ) (old new : Actor P) → Settles code_of local_of waits_of old new → is_start new.ask ≡ true → nat_eq s.started m.process_bound ≡ false → Acts code_of local_of waits_of s (Full pid) old Refused new
+  fill_early s pid old new g e fails (m.Running l vs) h =
+      let k = kept s.code l vs old new h g in
+      let at : is_start (Some g.ask) ≡ true = ap is_start (sym g.is) ∙ e in
+      let w = start_told s.code (local_of new.process) g.ask at (asks_in s.code l vs old new h g) in
+      let n : ask_of s.code l ≡ Wants (Start w.0 w.1 w.2) w.3.next = asked_for s.code l (local_of new.process) (Start w.0 w.1 w.2) k.runs w.3 in
+      (k, λ machine i. ap (m.fills machine pid) (at_ask s (Full pid) l vs machine i ∙ ap Some n) ∙ fails_if _ _ (ap (λ (x : ℕ). nat_eq x m.process_bound) i.started ∙ fails))
+  fill_early s pid old new g e fails (m.Over how) h = absurd h
+  fill_early s pid old new g e fails (m.Left how) h = absurd h
+
+  pub fill_some : (s : Setting) (pid : ℕ) (old mid new : Actor P) → Settles code_of local_of waits_of old mid → is_start mid.ask ≡ true → nat_eq s.started m.process_bound ≡ true
+      → code_of new.process ≡ code_of mid.process → acts.Filled (code_of mid.process) (local_of mid.process) (local_of new.process) → new.unseen.items ≡ mid.unseen.items → new.ask ≡ None
+      → Acts code_of local_of waits_of s (Full pid) old (Goes f.Nothing) new
+  fill_some s pid old mid new g e full code filled same no_ask (m.Running l vs) h =
+      let k = kept s.code l vs old mid h g in
+      let at : is_start (Some g.ask) ≡ true = ap is_start (sym g.is) ∙ e in
+      let w = start_told s.code (local_of mid.process) g.ask at (asks_in s.code l vs old mid h g) in
+      let n : ask_of s.code l ≡ Wants (Start w.0 w.1 w.2) w.3.next = asked_for s.code l (local_of mid.process) (Start w.0 w.1 w.2) k.runs w.3 in
+      let q : Local = record (w.3.next (VAtom a_undef)) { course = Fell Limit } in
+      let goes : local_of new.process ≡ q = filled (Start w.0 w.1 w.2) w.3.next (ap (λ (x : Module). next_of x (local_of mid.process)) k.code ∙ w.3.asks) in (
+        m.Running q vs,
+        record {
+          code = code ∙ k.code;
+          runs = subst (λ (x : Local). Runs s.code q x) (sym goes) (none s.code q);
+          unseen = k.unseen ∙ ap (map value) (sym same);
+          stands = subst (λ (o : Option asking.Asking). StandsAt code_of local_of waits_of new.process o) (sym no_ask) tt;
+        },
+        tt,
+        λ machine i.
+            ap (m.fills machine pid) (at_ask s (Full pid) l vs machine i ∙ ap Some n)
+            ∙ holds_if _ _ (ap (λ (x : ℕ). nat_eq x m.process_bound) i.started ∙ full)
+            ∙ ap (λ (us : List Value). Some (m.with_process machine pid (m.Running q us))) (ap m.unseen_of i.stands),
+      )
+  fill_some s pid old mid new g e full code filled same no_ask (m.Over how) h = absurd h
+  fill_some s pid old mid new g e full code filled same no_ask (m.Left how) h = absurd h
+
+  pub fill_awaits : (old mid : Actor P) → (g : Settles code_of local_of waits_of old mid) → is_start mid.ask ≡ true → AwaitsAnswer (code_of mid.process) (local_of mid.process)
+  fill_awaits old mid g e =
+      let w = start_told (code_of mid.process) (local_of mid.process) g.ask (ap is_start (sym g.is) ∙ e) g.asks in
+      record { ask = Start w.0 w.1 w.2; asks = w.3 }

@@ -2,11 +2,12 @@ ghost use Rattle.std.specs.Prelude.{◌≡◌, ◌&&◌, ℕ, IfOk, nat_eq, nat_
 ghost use Rattle.code_tree.specs.Reading.{module_of};
 ghost use Rattle.code_tree.specs.PlainTerms.{value};
 ghost use Rattle.process_acts.specs.Acts.{AwaitsAnswer};
+ghost use Rattle.term_value.specs.Machine.{process_bound};
 ghost use Rattle.copy_machine.specs.Following.{StandsAt};
 ghost use Rattle.copy_machine.specs.Entering.{Acts, Answers, Setting, Settles};
 
 use crate::act::{Act, Effect};
-use crate::asks::{ended_by, is_more, message_to, shown_by};
+use crate::asks::{ended_by, is_more, is_start, message_to, shown_by};
 use crate::next_ask::next_ask;
 use crate::world::World;
 use code_tree::PlainTerm;
@@ -28,6 +29,16 @@ pub struct Actor<P> {
 
 /// The number of the atom `true`.
 const TRUE: u32 = 11;
+
+/// The most processes that may be started in a run.
+const PROCESS_BOUND: usize = 1_024;
+
+// Whether no more processes may be started.
+fn is_full(started: usize) -> bool
+    ensures { result ≡ nat_eq started process_bound }
+{
+    started == PROCESS_BOUND
+}
 
 // Whether the count is that of the unseen messages, of which there are some.
 fn is_all(count: u32, unseen: usize) -> bool
@@ -114,6 +125,25 @@ impl<P: Process + Drop> Actor<P> {
             if is_all(count, self.unseen.as_slice().len()) {
                 let messages = mem::replace(&mut self.unseen, Vec::new(alloc));
                 self.process.see(messages)?;
+                self.ask = None;
+                Ok(Act::Goes(Effect::Nothing))
+            } else {
+                Ok(Act::Refused)
+            }
+        } else {
+            Ok(Act::Refused)
+        }
+    }
+
+    // Goes on where no more processes may be started.
+    fn fill(&mut self, started: usize) -> Result<Act<P>, AllocError>
+        requires { StandsAt P.code P.local P.waits self.old.process self.old.ask }
+        ensures { IfOk result (λ act. (s : Setting) (pid : ℕ) → s.started ≡ started → Acts P.code P.local P.waits s (Entry.Full pid) self.old act self.new) }
+    {
+        self.settle()?;
+        if is_start(&self.ask) {
+            if is_full(started) {
+                self.process.fill();
                 self.ask = None;
                 Ok(Act::Goes(Effect::Nothing))
             } else {
