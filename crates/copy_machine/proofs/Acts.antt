@@ -5,7 +5,7 @@ use Rattle.std.proofs.lemmas.Bool.{eqb-true, eq-eqb}
 use Rattle.std.proofs.lemmas.List.{length-map}
 use Rattle.term_value.specs.Result.{Limit, truth}
 use Rattle.term_value.specs.Texts.{text}
-use Rattle.term_value.specs.Value.{Value, VAtom, VList, Values}
+use Rattle.term_value.specs.Value.{Value, VAtom, VPid, VList, Values, count}
 use Rattle.erl_syntax.specs.Atoms.{a_undef}
 use Rattle.term_value.specs.Seen.{Seen}
 use Rattle.term_value.specs.Tree.{Module}
@@ -18,16 +18,19 @@ use Rattle.term_value.specs.declared.entry.Entry.{Entry}
 use Rattle.term_layers.proofs.Runs.{ask_reached}
 use Rattle.code_tree.specs.PlainTerms.{value}
 use Rattle.process_acts.specs.Acts as acts
-use Rattle.process_acts.specs.Acts.{Runs, AsksFor, AsksStart, AwaitsAnswer, AwaitsMessages, IsAsking}
+use Rattle.process_acts.specs.Acts.{Runs, AsksFor, AsksStart, AwaitsAnswer, AwaitsMessages, IsAsking, IsFirst}
 use Rattle.process_acts.specs.declared.asking.Asking as asking
 use Rattle.process_acts.specs.declared.asking.Asking.TheVariants as a
-use Rattle.copy_machine.specs.Asks.{if_named, message_to, shown_by, is_start, is_more, ended_by, arguments_of}
+use Rattle.copy_machine.specs.Asks.{if_named, message_to, shown_by, called_by, is_start, is_more, ended_by, arguments_of}
 use Rattle.copy_machine.specs.Reaching.{Reaches}
 use Rattle.copy_machine.specs.Following.{StandsAt, Plays, IsRowOf, ending_of}
 use Rattle.copy_machine.specs.Entering.{Setting, IsIn, Acts, Settles, Answers, pid_of}
 use Rattle.copy_machine.specs.declared.act.Act.TheVariants.{Refused, Goes, Ends}
 use Rattle.copy_machine.specs.declared.act.Effect.TheVariants as f
 use Rattle.copy_machine.specs.declared.actor.Actor.{Actor}
+use Rattle.copy_machine.specs.declared.call.Call.{Call}
+use Rattle.copy_machine.specs.Starting.{Begins}
+use Rattle.process_acts.specs.declared.process.First.{First}
 use Rattle.copy_machine.specs.declared.ending.Ending.{Ending}
 use Rattle.copy_machine.specs.declared.ending.Ending.TheVariants as ends
 use Rattle.copy_machine.proofs.Paths.{none, on_from}
@@ -122,6 +125,45 @@ more_told code k (a.Raised reason) e h = absurd (cc e)
 more_for : (code : Module) (l k : Local) → Runs code l k → (h : AwaitsMessages code k) → ask_of code l ≡ WantsMore h.state
 more_for code l k r h = sym (ask_reached code l k r.cost r.made (WantsMore h.state) r.path (ap asked h.asks))
 
+some_same : {X : Type 0} {x y : X} → Some x ≡ Some y → x ≡ y
+some_same e = cc e
+
+start_refused : (child : ℕ) (ask : asking.Asking) (n : NextAsk) → called_by (Some ask) ≡ None → Tells ask n → (machine : m.Machine) (pid : ℕ) → m.starts machine pid child (Some n) ≡ None
+start_refused child (a.Send receiver v) n e t machine pid = ap (λ (x : NextAsk). m.starts machine pid child (Some x)) t.1
+start_refused child (a.Show v) n e t machine pid = ap (λ (x : NextAsk). m.starts machine pid child (Some x)) t.1
+start_refused child (a.Start module_name function vs) n e t machine pid = absurd (cc e)
+start_refused child a.More n e t machine pid = ap (λ (x : NextAsk). m.starts machine pid child (Some x)) t.1
+start_refused child a.Done n e t machine pid = ap (λ (x : NextAsk). m.starts machine pid child (Some x)) t
+start_refused child (a.Raised reason) n e t machine pid = ap (λ (x : NextAsk). m.starts machine pid child (Some x)) t
+
+start_too_far : (child : ℕ) (ask : asking.Asking) (n : NextAsk) → Tells ask n → (machine : m.Machine) (pid : ℕ) → (nat_eq child (length machine.processes + 1) && nat_le child m.process_bound) ≡ false → m.starts machine pid child (Some n) ≡ None
+start_too_far child (a.Send receiver v) n t machine pid fails = ap (λ (x : NextAsk). m.starts machine pid child (Some x)) t.1
+start_too_far child (a.Show v) n t machine pid fails = ap (λ (x : NextAsk). m.starts machine pid child (Some x)) t.1
+start_too_far child (a.Start module_name function vs) n t machine pid fails = ap (λ (x : NextAsk). m.starts machine pid child (Some x)) t.1 ∙ fails_if _ _ fails
+start_too_far child a.More n t machine pid fails = ap (λ (x : NextAsk). m.starts machine pid child (Some x)) t.1
+start_too_far child a.Done n t machine pid fails = ap (λ (x : NextAsk). m.starts machine pid child (Some x)) t
+start_too_far child (a.Raised reason) n t machine pid fails = ap (λ (x : NextAsk). m.starts machine pid child (Some x)) t
+
+called_told : (code : Module) (k : Local) (ask : asking.Asking) (call : Call) → called_by (Some ask) ≡ Some call → IsAsking code k ask → AsksFor code k (Start call.module_name call.function (arguments_of (value call.arguments)))
+called_told code k (a.Send receiver v) call e h = absurd (cc e)
+called_told code k (a.Show v) call e h = absurd (cc e)
+called_told code k (a.Start module_name function vs) call e h =
+    let same : record { module_name = module_name; function = function; arguments = vs } ≡ call = some_same e in
+    subst (λ (x : Call). AsksFor code k (Start x.module_name x.function (arguments_of (value x.arguments)))) same (start_asked code k module_name function (value vs) h)
+called_told code k a.More call e h = absurd (cc e)
+called_told code k a.Done call e h = absurd (cc e)
+called_told code k (a.Raised reason) call e h = absurd (cc e)
+
+called_list : (code : Module) (k : Local) (ask : asking.Asking) (call : Call) → called_by (Some ask) ≡ Some call → IsAsking code k ask → value call.arguments ≡ VList (arguments_of (value call.arguments))
+called_list code k (a.Send receiver v) call e h = absurd (cc e)
+called_list code k (a.Show v) call e h = absurd (cc e)
+called_list code k (a.Start module_name function vs) call e h =
+    let same : record { module_name = module_name; function = function; arguments = vs } ≡ call = some_same e in
+    subst (λ (x : Call). value x.arguments ≡ VList (arguments_of (value x.arguments))) same (h.are ∙ ap VList (sym (ap arguments_of h.are)))
+called_list code k a.More call e h = absurd (cc e)
+called_list code k a.Done call e h = absurd (cc e)
+called_list code k (a.Raised reason) call e h = absurd (cc e)
+
 start_told : (code : Module) (k : Local) (ask : asking.Asking) → is_start (Some ask) ≡ true → IsAsking code k ask
     → (module_name : ℕ) × (function : ℕ) × (arguments : Values) × AsksFor code k (Start module_name function arguments)
 start_told code k (a.Send receiver v) e h = absurd (cc e)
@@ -171,6 +213,13 @@ at_ask s entry l vs machine i = ap (m.ask_of_process machine.code) i.stands ∙ 
 
 fits_same : (n : ℕ) (x : m.Machine) → m.if_fits (nat_eq n n) x ≡ Some x
 fits_same n x = ap (λ (b : Bool). m.if_fits b x) (eq-eqb n n refl)
+
+abbrev begun_as : Values → (pid left : ℕ) → Option ℕ → Local
+begun_as vs pid left place = record { pid = pid; course = m.call_of place vs; seen = []; left = left }
+
+begun_alike : (vs : Values) (p q r t : ℕ) (o w : Option ℕ) → p ≡ q → r ≡ t → o ≡ w
+    → begun_as vs p r o ≡ begun_as vs q t w
+begun_alike vs p q r t o w a b d = ap (λ (x : ℕ). begun_as vs x r o) a ∙ ap (λ (x : ℕ). begun_as vs q x o) b ∙ ap (λ (x : Option ℕ). begun_as vs q t x) d
 
 -- ---- Actors
 
@@ -407,3 +456,57 @@ module _ {P : Type 0} (code_of : P → Module) (local_of : P → Local) (waits_o
   fill_awaits old mid g e =
       let w = start_told (code_of mid.process) (local_of mid.process) g.ask (ap is_start (sym g.is) ∙ e) g.asks in
       record { ask = Start w.0 w.1 w.2; asks = w.3 }
+
+  -- ---- Starts
+
+  pub start_none : (s : Setting) (pid child : ℕ) (old new : Actor P) → Settles code_of local_of waits_of old new → called_by new.ask ≡ None → Acts code_of local_of waits_of s (Started pid child) old Refused new
+  start_none s pid child old new g e (m.Running l vs) h =
+      let k = kept s.code l vs old new h g in
+      let t = tells s.code l (local_of new.process) k.runs g.ask (asks_in s.code l vs old new h g) in
+      let at : called_by (Some g.ask) ≡ None = ap called_by (sym g.is) ∙ e in
+      (k, λ machine i. ap (m.starts machine pid child) (at_ask s (Started pid child) l vs machine i) ∙ start_refused child g.ask (ask_of s.code l) at t machine pid)
+  start_none s pid child old new g e (m.Over how) h = absurd h
+  start_none s pid child old new g e (m.Left how) h = absurd h
+
+  pub start_far : (s : Setting) (pid child : ℕ) (old new : Actor P) → Settles code_of local_of waits_of old new → (nat_eq child (s.started + 1) && nat_le child m.process_bound) ≡ false
+      → Acts code_of local_of waits_of s (Started pid child) old Refused new
+  start_far s pid child old new g fails (m.Running l vs) h =
+      let k = kept s.code l vs old new h g in
+      let t = tells s.code l (local_of new.process) k.runs g.ask (asks_in s.code l vs old new h g) in (
+        k,
+        λ machine i. ap (m.starts machine pid child) (at_ask s (Started pid child) l vs machine i)
+            ∙ start_too_far child g.ask (ask_of s.code l) t machine pid (ap (λ (x : ℕ). nat_eq child (x + 1) && nat_le child m.process_bound) i.started ∙ fails),
+      )
+  start_far s pid child old new g fails (m.Over how) h = absurd h
+  start_far s pid child old new g fails (m.Left how) h = absurd h
+
+  pub start_some : (s : Setting) (pid child : ℕ) (call : Call) (first : First) (answer : Value) (process : P) (old mid new : Actor P) → Settles code_of local_of waits_of old mid → called_by mid.ask ≡ Some call
+      → (nat_eq child (s.started + 1) && nat_le child m.process_bound) ≡ true → Begins s.code s.reductions child call first → IsFirst first (local_of process) → code_of process ≡ code_of mid.process → answer ≡ VPid child → Answers code_of local_of answer mid new
+      → Acts code_of local_of waits_of s (Started pid child) old (Goes (f.Starts process)) new
+  start_some s pid child call first answer process old mid new g e near begins is_first code is w (m.Running l vs) h =
+      let k = kept s.code l vs old mid h g in
+      let at : called_by (Some g.ask) ≡ Some call = ap called_by (sym g.is) ∙ e in
+      let asks = asks_in s.code l vs old mid h g in
+      let us = arguments_of (value call.arguments) in
+      let this = called_told s.code (local_of mid.process) g.ask call at asks in
+      let list = called_list s.code (local_of mid.process) g.ask call at asks in
+      let d = went s.code l vs mid new (Start call.module_name call.function us) answer k this w in
+      let begun : local_of process ≡ m.first_of s.code s.reductions child call.module_name call.function us =
+      is_first us (ap value begins.arguments ∙ list)
+      ∙ begun_alike us first.pid child first.reductions s.reductions first.function (m.exported_in (nat_eq call.module_name s.code.name) s.code call.function (count us)) begins.pid begins.reductions begins.function in (
+        m.Running (d.0 answer) vs,
+        d.2,
+        code ∙ k.code,
+        λ machine i.
+            ap (m.starts machine pid child) (at_ask s (Started pid child) l vs machine i ∙ ap Some d.1)
+            ∙ holds_if _ _ (ap (λ (x : ℕ). nat_eq child (x + 1) && nat_le child m.process_bound) i.started ∙ near)
+            ∙ ap (λ (x : Local). Some (m.with_child (m.goes_on machine pid (d.0 (VPid child))) x)) (ap (λ (x : Module). m.first_of x machine.reductions child call.module_name call.function us) i.code ∙ ap (λ (x : ℕ). m.first_of s.code x child call.module_name call.function us) i.reductions ∙ sym begun)
+            ∙ ap (λ (x : Value). Some (m.with_child (m.goes_on machine pid (d.0 x)) (local_of process))) (sym is)
+            ∙ ap (λ (xs : List Value). Some (m.with_child (m.with_process machine pid (m.Running (d.0 answer) xs)) (local_of process))) (ap m.unseen_of i.stands),
+      )
+  start_some s pid child call first answer process old mid new g e near begins is_first code is w (m.Over how) h = absurd h
+  start_some s pid child call first answer process old mid new g e near begins is_first code is w (m.Left how) h = absurd h
+
+  pub start_awaits : (call : Call) (old mid : Actor P) → (g : Settles code_of local_of waits_of old mid) → called_by mid.ask ≡ Some call → AwaitsAnswer (code_of mid.process) (local_of mid.process)
+  start_awaits call old mid g e =
+      record { ask = Start call.module_name call.function (arguments_of (value call.arguments)); asks = called_told (code_of mid.process) (local_of mid.process) g.ask call (ap called_by (sym g.is) ∙ e) g.asks }
