@@ -1,13 +1,13 @@
-ghost use Rattle.std.specs.Prelude.{◌≡◌, ◌&&◌, ℕ, IfOk, nat_eq, nat_le};
+ghost use Rattle.std.specs.Prelude.{◌≡◌, ◌&&◌, ◌+◌, ℕ, IfOk, nat_eq, nat_le};
 ghost use Rattle.code_tree.specs.Reading.{module_of};
 ghost use Rattle.code_tree.specs.PlainTerms.{value};
 ghost use Rattle.process_acts.specs.Acts.{AwaitsAnswer};
 ghost use Rattle.term_value.specs.Machine.{process_bound};
 ghost use Rattle.copy_machine.specs.Following.{StandsAt};
-ghost use Rattle.copy_machine.specs.Entering.{Acts, Answers, Setting, Settles};
+ghost use Rattle.copy_machine.specs.Entering.{Acts, Answers, Setting, Settles, setting};
 
 use crate::act::{Act, Effect};
-use crate::asks::{ended_by, is_more, is_start, message_to, shown_by};
+use crate::asks::{called_by, ended_by, is_more, is_start, message_to, shown_by};
 use crate::next_ask::next_ask;
 use crate::world::World;
 use code_tree::PlainTerm;
@@ -32,6 +32,16 @@ const TRUE: u32 = 11;
 
 /// The most processes that may be started in a run.
 const PROCESS_BOUND: usize = 1_024;
+
+// Whether the pid is the one after those that were started, and no larger than a pid may be.
+fn is_next(child: u32, started: usize) -> bool
+    ensures { result ≡ (nat_eq child (started + 1) && nat_le child process_bound) }
+{
+    if started >= PROCESS_BOUND {
+        return false;
+    }
+    child as usize == started + 1 && child as usize <= PROCESS_BOUND
+}
 
 // Whether no more processes may be started.
 fn is_full(started: usize) -> bool
@@ -148,6 +158,28 @@ impl<P: Process + Drop> Actor<P> {
                 Ok(Act::Goes(Effect::Nothing))
             } else {
                 Ok(Act::Refused)
+            }
+        } else {
+            Ok(Act::Refused)
+        }
+    }
+
+    // Starts the process of this pid.
+    fn start(&mut self, world: &World<'_>, child: u32, started: usize) -> Result<Act<P>, AllocError>
+        requires { StandsAt P.code P.local P.waits self.old.process self.old.ask }
+        ensures { IfOk result (λ act. (s : Setting) (pid : ℕ) → s ≡ setting world.now.code.now world.now.reductions started → Acts P.code P.local P.waits s (Entry.Started pid child) self.old act self.new) }
+    {
+        self.settle()?;
+        if is_next(child, started) {
+            match called_by(&self.ask)? {
+                None => Ok(Act::Refused),
+                Some(call) => {
+                    let first = world.first(call, child)?;
+                    let process = self.process.child(first)?;
+                    let pid = PlainTerm::of(Term::Pid(child));
+                    self.answer(pid);
+                    Ok(Act::Goes(Effect::Starts(process)))
+                }
             }
         } else {
             Ok(Act::Refused)
