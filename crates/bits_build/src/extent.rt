@@ -1,6 +1,6 @@
 //! How many bits a segment has.
 
-ghost use Rattle.std.specs.Prelude.{◌<◌, List, Bool, Option, Some, option_map};
+ghost use Rattle.std.specs.Prelude.{◌<◌, List, Bool, Option, Some, option_map, option_copied};
 ghost use Rattle.term_value.specs.Extent.{extent, written};
 ghost use Rattle.term_value.specs.Value.{VInt};
 ghost use Rattle.term_value.specs.Terms.{value_of};
@@ -8,7 +8,7 @@ ghost use Rattle.bits_build.specs.Extents.{IsExtent, HasUnit};
 
 use crate::part::Part;
 use bits_value::MAX_BITS;
-use erl_syntax::SizeUse;
+use erl_syntax::{SizeUse, Typed};
 use term_value::Term;
 
 /// How many bits a segment has.
@@ -30,10 +30,18 @@ pub fn extent_of<R>(part: &Part<R>) -> Extent
     ensures unit { 0 < part.now.typed.unit → HasUnit result }
     ensures is { (shown : R → List Bool) → IsExtent (extent part.now.typed.size part.now.typed.unit (option_map (value_of shown) part.now.size)) result }
 {
-    let unit = part.typed.unit;
-    match part.typed.size {
+    reach(&part.typed, part.size.as_ref())
+}
+
+/// How many bits a segment of this type has by the value of its size.
+pub fn reach<R>(typed: &Typed, size: Option<&Term<R>>) -> Extent
+    ensures unit { 0 < typed.now.unit → HasUnit result }
+    ensures is { (shown : R → List Bool) → IsExtent (extent typed.now.size typed.now.unit (option_map (value_of shown) (option_copied size.entry))) result }
+{
+    let unit = typed.unit;
+    match typed.size {
         SizeUse::Default(count) => in_units(i128::from(count), unit),
-        SizeUse::Given => match &part.size {
+        SizeUse::Given => match size {
             Some(Term::Int(count)) => in_units(*count, unit),
             _ => Extent::BadSize,
         },

@@ -10,5 +10,6 @@ mod part;
 mod segment;
 
 pub use construction::build;
+pub use extent::{Extent, reach};
 pub use fault::BuildFault;
 pub use part::Part;
