@@ -7,6 +7,4 @@ pub mod SamePut
 pub mod SameRead
 pub mod SameRuns
 pub mod SameWalks
-pub mod Taken
 pub mod Words
-pub mod Written

@@ -9,7 +9,7 @@ use Rattle.first_form.specs.Numbers.{IsReadAs}
 use Rattle.first_form.specs.declared.form.Straight.{Straight}
 use Rattle.term_value.specs.Orders.{order_text}
 use Rattle.bits_top.specs.Runs.{HasRun, report_of}
-use Rattle.bits_top.specs.Whole.{IsRunOf}
+use Rattle.command_answers.specs.Whole.{IsRunOf}
 use Rattle.bits_top.specs.declared.run.Outcome.{Outcome}
 use Rattle.bits_top.proofs.SameRuns.{same_run}
 

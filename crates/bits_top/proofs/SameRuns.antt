@@ -25,7 +25,7 @@ use Rattle.term_value.specs.declared.entry.Entry.TheVariants.{Shown, Ended, Gone
 use Rattle.first_form.specs.Form.{IsStraight, AreItems, IsShort}
 use Rattle.first_form.specs.Whole.{module_by, AreApart}
 use Rattle.bits_top.specs.Runs.{parts_as_bits, decoded, known, bound_value, shown_of, ending_of, shown_entries, end_entries, HasRun, ending_text, report_of}
-use Rattle.bits_top.specs.Whole.{IsRunOf, SharesNothing}
+use Rattle.command_answers.specs.Whole.{IsRunOf, SharesNothing}
 use Rattle.bits_top.proofs.Runs.{known_more}
 use Rattle.bits_top.proofs.SameAsks.{due, standing, resting, whole_of, AllApart, apart_matched, apart_displayed}
 use Rattle.bits_top.proofs.SameWalks.{asks_resting, starts, asks_first}
@@ -138,14 +138,16 @@ same_run number atoms others name main s (suc left) outcome order report apart t
     let at : start_of code (suc left) ≡ whole_at code (suc left) (Running (standing (suc left) (Form (Call 0) end)) []) [] = whole_start number atoms name main s (suc left) called in
     let spelled : SpellsReductions atoms = subst SpellsReductions (sym table) refl in
     record {
-      entries = entries;
-      state = whole_at code (suc left) (Left (whole_end how)) shown;
-      leads = subst (λ m. Leads m entries (whole_at code (suc left) (Left (whole_end how)) shown)) (sym at) f;
-      complete = (tt, tt);
-      ordered = record {
-        in_range = each_entry IsInRange shown (omega arith, omega arith) (omega arith, omega arith) ((omega arith, omega arith), omega arith, omega arith, omega arith);
-        spelled = ordered ∙ ap order_text (run.entries ∙ ap (λ l. shown_entries l ++ end_entries) same_shown);
+      replay = record {
+        entries = entries;
+        state = whole_at code (suc left) (Left (whole_end how)) shown;
+        leads = subst (λ m. Leads m entries (whole_at code (suc left) (Left (whole_end how)) shown)) (sym at) f;
+        complete = (tt, tt);
+        ordered = record {
+          in_range = each_entry IsInRange shown (omega arith, omega arith) (omega arith, omega arith) ((omega arith, omega arith), omega arith, omega arith, omega arith);
+          spelled = ordered ∙ ap order_text (run.entries ∙ ap (λ l. shown_entries l ++ end_entries) same_shown);
+        };
+        reported = reported ∙ ap (λ l. report_of l outcome.ending) same_shown ∙ ap (λ e. report_of shown e) same_ending ∙ lines code (suc left) shown how spelled;
       };
       unshared = each_entry SharesNothing shown tt tt (refl, refl, refl);
-      reported = reported ∙ ap (λ l. report_of l outcome.ending) same_shown ∙ ap (λ e. report_of shown e) same_ending ∙ lines code (suc left) shown how spelled;
     }

@@ -1,84 +1,31 @@
 -- What each answer of a command says of the ports (this project's own).
-use Rattle.std.specs.Prelude.{◌≡◌, ◌⊎◌, ℕ, ◌≤◌, ◌<◌, ◌++◌, List, length, codes, Option, Some, IfSome}
-use Rattle.std.specs.Io.KnownBytes.{Appends, IsAtEnd}
-use Rattle.io_ports.specs.Causes.{Rose}
-use Rattle.bits_top.specs.Stream.{AppendsPrefix}
+use Rattle.std.specs.Prelude.{◌≡◌, ◌⊎◌, ℕ, ◌≤◌, ◌<◌, ◌++◌, List, length, codes, Some}
+use Rattle.command_answers.specs.Answer.{Port, AreUntouched, Faulted, IsTooLong, IsUnaccepted, IsWhole, Took, Untouched}
+use Rattle.command_answers.specs.Stream.{AppendsPrefix}
 use Rattle.erl_syntax.specs.Atoms.{fixed_atoms}
 use Rattle.erl_syntax.specs.Checking.{AreNumbered}
 use Rattle.erl_syntax.specs.Reading.{StandOnce, longest_text}
 use Rattle.erl_syntax.specs.declared.module.Module.{Module}
 use Rattle.erl_syntax.specs.declared.checking.VarUse.{VarUse}
-use Rattle.module_accept.specs.Accepting.{Accepts, IsDue}
+use Rattle.module_accept.specs.Accepting.{Accepts}
 use Rattle.term_value.specs.ReadTrees.{module_of}
 use Rattle.first_form.specs.TreeOf.{IsForm, IsTreeOf}
 use Rattle.first_form.specs.declared.form.Straight.{Straight}
-use Rattle.bits_top.specs.Whole.{IsRunOf}
-use Rattle.bits_top.specs.declared.status.Status.{Status}
-use Rattle.bits_top.specs.declared.status.Status.TheVariants.{Done, Refused, Usage, ReadFault, ReportFault, OrderFault, NoMemory, BadOrder}
-
--- a port before and after a call: the bytes that it tells, and its faults
-pub record Port : Type 0 where
-  pub before : Option (List ℕ)
-  pub after : Option (List ℕ)
-  pub faults_before : ℕ
-  pub faults_after : ℕ
-
-abbrev pub port : {X : Type 0} → (X → Option (List ℕ)) → (X → ℕ) → X → X → Port
-port told faults old new = record { before = told old; after = told new; faults_before = faults old; faults_after = faults new }
-
--- its count of faults rose in the call
-abbrev pub Faulted : Port → Type 0
-Faulted p = Rose p.faults_before p.faults_after
-
--- it tells the same as before, and so does its count
-pub record Untouched (p : Port) : Type 0 where
-  pub told : p.after ≡ p.before
-  pub count : p.faults_after ≡ p.faults_before
-
--- nothing was written to the two sinks
-pub record AreUntouched (report order : Port) : Type 0 where
-  pub reported : Untouched report
-  pub ordered : Untouched order
-
--- a source held this text, where it tells
-abbrev pub Held : Port → List ℕ → Type 0
-Held p text = IfSome p.before (λ held. held ≡ text)
-
--- a sink took these bytes and no others, where it tells
-abbrev pub Took : Port → List ℕ → Type 0
-Took p bytes = Appends p.before p.after bytes
+use Rattle.command_answers.specs.Whole.{IsRunOf}
+use Rattle.command_answers.specs.declared.status.Status.{Status}
+use Rattle.command_answers.specs.declared.status.Status.TheVariants.{Done, Refused, Usage, ReadFault, ReportFault, OrderFault, NoMemory, BadOrder}
 
 -- a sink took a front of these bytes
-abbrev pub TookFront : Port → List ℕ → Type 0
-TookFront p bytes = AppendsPrefix p.before p.after bytes
+abbrev pub TookPrefix : Port → List ℕ → Type 0
+TookPrefix p bytes = AppendsPrefix p.before p.after bytes
 
--- The source was read to its end, and its text is that of an accepted module.
-pub record IsWhole (source : Port) (text : List ℕ) (m : Module) : Type 0 where
-  pub held : Held source text
-  pub ended : IsAtEnd source.after
-  pub short : length text ≤ longest_text
-  pub accepts : Accepts text m
-
--- So it is, and the text has today's form; and these are the variables of each of the module's functions.
+-- The source held the text of an accepted module of today's form; and these are the variables of each of the module's functions.
 pub record IsAccepted (source : Port) (text : List ℕ) (tree : Module) : Type 0 where
   pub whole : IsWhole source text tree
   pub numbers : List (List VarUse)
   pub numbered : ∥ AreNumbered tree.functions numbers ∥₁
   pub straight : Straight
   pub form : IsForm text straight
-
-pub record IsTooLong (source : Port) (text line : List ℕ) : Type 0 where
-  pub held : Held source text
-  pub long : longest_text < length text
-  pub due : line ≡ codes "1:1: text too long\n"
-
--- The source was read to its end, and its text is that of no accepted module: the line tells its first fault.
-pub record IsUnaccepted (source : Port) (text line : List ℕ) : Type 0 where
-  pub held : Held source text
-  pub ended : IsAtEnd source.after
-  pub short : length text ≤ longest_text
-  pub none : (m : Module) → Accepts text m → ⊥
-  pub due : IsDue text line
 
 -- The text's module is accepted, and can't be run today.
 pub record IsNotBuilt (source : Port) (text line : List ℕ) : Type 0 where
@@ -133,7 +80,7 @@ pub record IsOrderFault (reductions : ℕ) (source report order : Port) : Type 0
   pub report_text : List ℕ
   pub run : IsRun tree read.numbers reductions order_text report_text
   pub fault : Faulted order
-  pub ordered : TookFront order order_text
+  pub ordered : TookPrefix order order_text
   pub reported : Untouched report
 
 -- The report of a run was due, whose order is written whole.
@@ -146,7 +93,7 @@ pub record IsReportFaultOfRun (reductions : ℕ) (source report order : Port) : 
   pub run : IsRun tree read.numbers reductions order_text report_text
   pub ordered : Took order order_text
   pub fault : Faulted report
-  pub reported : TookFront report report_text
+  pub reported : TookPrefix report report_text
 
 -- The line of a refusal was due.
 pub record IsReportFaultOfRefusal (source report order : Port) : Type 0 where
@@ -155,7 +102,7 @@ pub record IsReportFaultOfRefusal (source report order : Port) : Type 0 where
   pub read : IsRefusedWith source text line
   pub ordered : Untouched order
   pub fault : Faulted report
-  pub reported : TookFront report line
+  pub reported : TookPrefix report line
 
 -- What the answer to `run` says. Want of memory may come at any time before the order is written.
 abbrev pub AnswersRun : ℕ → Status → Port → Port → Port → Type 0
@@ -171,7 +118,7 @@ AnswersRun reductions BadOrder source report order = ⊥
 -- What the answer to a refusal says: its line is written, or the report failed.
 abbrev pub AnswersRefusal : Status → Port → List ℕ → Type 0
 AnswersRefusal Refused report line = Took report line
-AnswersRefusal ReportFault report line = Faulted report × TookFront report line
+AnswersRefusal ReportFault report line = Faulted report × TookPrefix report line
 AnswersRefusal Done report line = ⊥
 AnswersRefusal Usage report line = ⊥
 AnswersRefusal ReadFault report line = ⊥
@@ -202,7 +149,7 @@ pub record IsOrderFailed (straight : Straight) (reductions : ℕ) (report order 
   pub report_text : List ℕ
   pub run : RunsEach straight reductions order_text report_text
   pub fault : Faulted order
-  pub ordered : TookFront order order_text
+  pub ordered : TookPrefix order order_text
   pub reported : Untouched report
 
 pub record IsReportFailed (straight : Straight) (reductions : ℕ) (report order : Port) : Type 0 where
@@ -211,7 +158,7 @@ pub record IsReportFailed (straight : Straight) (reductions : ℕ) (report order
   pub run : RunsEach straight reductions order_text report_text
   pub ordered : Took order order_text
   pub fault : Faulted report
-  pub reported : TookFront report report_text
+  pub reported : TookPrefix report report_text
 
 -- What the answer to an accepted module says of the two sinks.
 abbrev pub AnswersAccepted : ℕ → Straight → Status → Port → Port → Type 0
@@ -257,72 +204,3 @@ IsDoneOrNoMemory status = (status ≡ Done) ⊎ (status ≡ NoMemory)
 
 abbrev pub IsRefusedOrNoMemory : Status → Type 0
 IsRefusedOrNoMemory status = (status ≡ Refused) ⊎ (status ≡ NoMemory)
-
--- ---- `check`
-
--- The text's module is accepted, and the report is `ok`.
-pub record IsFound (source report : Port) : Type 0 where
-  pub text : List ℕ
-  pub tree : Module
-  pub whole : IsWhole source text tree
-  pub reported : Took report (codes "ok\n")
-
--- The refusal's line is the whole report.
-pub record IsRefusedCheck (source report : Port) : Type 0 where
-  pub text : List ℕ
-  pub line : List ℕ
-  pub read : IsRefusedText source text line
-  pub reported : Took report line
-
-pub record IsUnread (source report : Port) : Type 0 where
-  pub fault : Faulted source
-  pub reported : Untouched report
-
--- `ok` was due
-pub record IsOkUnwritten (source report : Port) : Type 0 where
-  pub text : List ℕ
-  pub tree : Module
-  pub whole : IsWhole source text tree
-  pub fault : Faulted report
-  pub reported : TookFront report (codes "ok\n")
-
--- the line of a refusal was due
-pub record IsLineUnwritten (source report : Port) : Type 0 where
-  pub text : List ℕ
-  pub line : List ℕ
-  pub read : IsRefusedText source text line
-  pub fault : Faulted report
-  pub reported : TookFront report line
-
--- What the answer to `check` says. Want of memory may come at any time before the report is written.
-abbrev pub AnswersCheck : Status → Port → Port → Type 0
-AnswersCheck Done source report = IsFound source report
-AnswersCheck Refused source report = IsRefusedCheck source report
-AnswersCheck Usage source report = ⊥
-AnswersCheck ReadFault source report = IsUnread source report
-AnswersCheck ReportFault source report = IsOkUnwritten source report ⊎ IsLineUnwritten source report
-AnswersCheck OrderFault source report = ⊥
-AnswersCheck NoMemory source report = Untouched report
-AnswersCheck BadOrder source report = ⊥
-
--- What the answer says of the report where the module is accepted.
-abbrev pub AnswersOk : Status → Port → Type 0
-AnswersOk Done report = Took report (codes "ok\n")
-AnswersOk ReportFault report = Faulted report × TookFront report (codes "ok\n")
-AnswersOk Refused report = ⊥
-AnswersOk Usage report = ⊥
-AnswersOk ReadFault report = ⊥
-AnswersOk OrderFault report = ⊥
-AnswersOk NoMemory report = ⊥
-AnswersOk BadOrder report = ⊥
-
--- The source tells a text, and no count rises.
-pub record IsToldWell (source report : Port) (text : List ℕ) : Type 0 where
-  pub told : source.before ≡ Some text
-  pub source_well : Faulted source → ⊥
-  pub report_well : Faulted report → ⊥
-
--- `check` finds an accepted module accepted, and refuses every other text.
-pub record ChecksWell (status : Status) (source report : Port) : Type 0 where
-  pub accepts : (text : List ℕ) (m : Module) → IsToldWell source report text → length text ≤ longest_text → Accepts text m → IsDoneOrNoMemory status
-  pub refuses : (text : List ℕ) → IsToldWell source report text → (longest_text < length text) ⊎ ((m : Module) → Accepts text m → ⊥) → IsRefusedOrNoMemory status

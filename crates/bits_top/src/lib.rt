@@ -6,10 +6,8 @@ mod matching;
 mod plain;
 mod program;
 mod run;
-mod status;
-mod streams;
 mod texts;
 
+pub use command_answers::Status;
 pub use plain::Plain;
 pub use program::{top, top_plain};
-pub use status::Status;

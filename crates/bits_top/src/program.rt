@@ -1,25 +1,25 @@
 // The top call: the words of a command line, the ports, the answer.
 ghost use Rattle.std.specs.Prelude.{◌≡◌, ◌≤◌, ◌↔◌, ◌+◌, ℕ, List, All, IfOk, map, string_bytes};
-ghost use Rattle.bits_top.specs.Answer.{AnswersAccepted, AnswersCheck, AnswersOk, AnswersRefusal, AnswersRun, ChecksWell, IsDoneOrNoMemory, IsRefusedOrNoMemory, IsSmooth, IsSmoothRefusal, RunsEach, Untouched, port};
+ghost use Rattle.bits_top.specs.Answer.{AnswersAccepted, AnswersRefusal, AnswersRun, IsDoneOrNoMemory, IsRefusedOrNoMemory, IsSmooth, IsSmoothRefusal, RunsEach};
+ghost use Rattle.command_answers.specs.Answer.{AnswersCheck, Untouched, port};
+ghost use Rattle.command_answers.specs.Complete.{ChecksWell};
 ghost use Rattle.bits_top.specs.Command.{Spells};
-ghost use Rattle.bits_top.specs.Stream.{ConsumesAtMost};
+ghost use Rattle.command_answers.specs.Stream.{ConsumesAtMost};
 ghost use Rattle.erl_syntax.specs.Reading.{longest_text};
 ghost use Rattle.first_form.specs.Form.{IsShort, IsStraight};
 ghost use Rattle.bits_top.specs.declared.command.Command.{Command};
 ghost use Rattle.bits_top.specs.declared.command.Run.{Run};
 
 use crate::command::{Command, command_of};
-use crate::streams::{ReadError, read_all, write_all};
-use crate::{Plain, Status, run, texts};
+use crate::{Plain, run, texts};
+use command_answers::{ReadError, Status, checks_well, open, read_all, reported, write_all};
+use erl_syntax::LONGEST_TEXT;
 use first_form::{Straight, forms_have_trees, straight_of};
 use io_ports::{Gate, Place, Sink, Source};
 use module_accept::{Refusal, accept};
 use std::alloc::{AllocError, Global};
 use std::sync::Wait;
 use std::thread::Threads;
-
-// The most bytes that a module's text may have.
-const TEXT_LIMIT: u32 = 1_048_576;
 
 /// Does what the words of a command line ask for, over these ports, and answers how it ended.
 ///
@@ -99,6 +99,7 @@ pub fn top_plain<S: Source, T: Source, A: Sink>(
         (port A.written A.faults report.old report.new) }
     ensures takes { ConsumesAtMost (S.left «module».old) (S.left «module».new) (longest_text + 1) }
 {
+    checks_well();
     match command {
         Plain::Check => check_module(alloc, module, report),
     }
@@ -111,29 +112,10 @@ fn check_module<S: Source, A: Sink>(alloc: Global, source: &mut S, report: &mut 
         (port A.written A.faults report.old report.new) }
     ensures takes { ConsumesAtMost (S.left source.old) (S.left source.new) (longest_text + 1) }
 {
-    let text = match read_all(alloc, source, TEXT_LIMIT) {
-        Ok(text) => text,
-        Err(ReadError::Fault) => return Status::ReadFault,
-        Err(ReadError::Memory) => return Status::NoMemory,
-    };
-    if text.len() > TEXT_LIMIT as usize {
-        return refuse(report, b"1:1: text too long\n");
+    match open(alloc, source, report) {
+        Ok(_) => reported(report, b"ok\n", Status::Done),
+        Err(status) => status,
     }
-    match accept(alloc, &text) {
-        Ok(_) => found(report),
-        Err(Refusal::Line(line)) => refuse(report, &line),
-        Err(Refusal::Memory) => Status::NoMemory,
-    }
-}
-
-// Writes that a module is accepted.
-fn found<A: Sink>(report: &mut A) -> Status
-    ensures { AnswersOk result (port A.written A.faults report.old report.new) }
-{
-    if write_all(report, b"ok\n").is_err() {
-        return Status::ReportFault;
-    }
-    Status::Done
 }
 
 // Reads the module and runs it, or refuses its text.
@@ -151,12 +133,12 @@ fn run_module<S: Source, A: Sink, B: Sink>(
         (port B.written B.faults order.old order.new) }
     ensures takes { ConsumesAtMost (S.left source.old) (S.left source.new) (longest_text + 1) }
 {
-    let text = match read_all(alloc, source, TEXT_LIMIT) {
+    let text = match read_all(alloc, source, LONGEST_TEXT as u32) {
         Ok(text) => text,
         Err(ReadError::Fault) => return Status::ReadFault,
         Err(ReadError::Memory) => return Status::NoMemory,
     };
-    if text.len() > TEXT_LIMIT as usize {
+    if text.len() > LONGEST_TEXT {
         return refuse(report, b"1:1: text too long\n");
     }
     let checked = match accept(alloc, &text) {

@@ -2,12 +2,13 @@ use Rattle.std.proofs.Common.{◌≤◌, length, codes, refl, ap, sym, ◌∙◌
 use Rattle.erl_syntax.specs.declared.module.Module.{Module}
 use Rattle.first_form.specs.TreeOf.{IsForm, IsTreeOf}
 use Rattle.bits_top.specs.Answer.{IsTable}
-use Rattle.bits_top.proofs.Answers.{refusal_answers, accepted_answers, form_of, held_long, none_built, only_of, unaccepted, whole_of}
+use Rattle.command_answers.proofs.Answers.{held_long, only_of, unaccepted, whole_of}
+use Rattle.bits_top.proofs.Answers.{refusal_answers, accepted_answers, form_of, none_built}
 use Rattle.bits_top.proofs.program.run_module.Goals as goal
 
-pub returns-then-len-clause-run : goal.returns-then-len-clause-run
-returns-then-len-clause-run g c =
-    let long = held_long _ _ _ c.in-Ok.ensures.read.taken (omega arith) in
+pub returns-then-len-gt-LONGEST_TEXT-clause-run : goal.returns-then-len-gt-LONGEST_TEXT-clause-run
+returns-then-len-gt-LONGEST_TEXT-clause-run g c =
+    let long = held_long _ _ _ 1_048_576 c.in-Ok.ensures.read.taken (omega arith) in
     refusal_answers c.refuse.result c.args.reductions long.0 (codes "1:1: text too long\n") _ _ _ (inl (inl (record { held = long.1; long = long.2; due = refl }))) (record { told = refl; count = refl })
     c.refuse.ensures
 

@@ -24,7 +24,7 @@ pub returns-in-Some-Run-clause-refuses : goal.returns-in-Some-Run-clause-refuses
 returns-in-Some-Run-clause-refuses g c = λ run h s. smooth_refused c.run_module.result _ _ _ _ c.run_module.ensures.run s
 
 pub returns-in-None-clause-check : goal.returns-in-None-clause-check
-returns-in-None-clause-check g c = λ h. c.in-None.ensures Check h
+returns-in-None-clause-check g c = λ h. absurd (c.in-None.ensures Check h)
 
 pub returns-in-None-clause-checks : goal.returns-in-None-clause-checks
 returns-in-None-clause-checks g c = λ h. absurd (c.in-None.ensures Check h)

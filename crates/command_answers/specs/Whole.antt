@@ -1,4 +1,4 @@
--- The runs of a module in the copying machine (what an order and a report are is this project's own).
+-- The runs of a module and its replay of an order, by their texts (what an order and a report are is this project's own).
 use Rattle.std.specs.Prelude.{◌≡◌, ℕ, List, All}
 use Rattle.term_value.specs.Tree.{Module}
 use Rattle.term_value.specs.Machine.{Machine, Leads, IsComplete, start_of}
@@ -12,13 +12,16 @@ abbrev pub SharesNothing : Entry → Type 0
 SharesNothing (Gone pid births drops moved) = (births ≡ 0) × (drops ≡ 0) × (moved ≡ 0)
 SharesNothing _ = Unit {0}
 
--- An order of the module's copying machine in the whole language, legal and complete, whose entries are in the ranges of their
--- lines and count nothing of shared buffers; the state that it leads to; and the two texts.
-pub record IsRunOf (code : Module) (reductions : ℕ) (order report : List ℕ) : Type 0 where
+-- The text of an order of the module's copying machine, legal and complete; the state that it leads to; and the report.
+pub record IsReplayOf (code : Module) (reductions : ℕ) (order report : List ℕ) : Type 0 where
   pub entries : List Entry
   pub state : Machine
   pub leads : Leads (start_of code reductions) entries state
   pub complete : IsComplete state
   pub ordered : IsOrderText order entries
-  pub unshared : All SharesNothing entries
   pub reported : report ≡ reports.report state
+
+-- Such an order and report, where the entries count nothing of shared buffers.
+pub record IsRunOf (code : Module) (reductions : ℕ) (order report : List ℕ) : Type 0 where
+  pub replay : IsReplayOf code reductions order report
+  pub unshared : All SharesNothing replay.entries

@@ -1,6 +1,6 @@
 use Rattle.std.proofs.Common.{◌≤◌, ◌-◌, length, vec_len}
 use Rattle.std.specs.Io.KnownBytes.{Consumes}
-use Rattle.bits_top.proofs.streams.read_all.Given as goal
+use Rattle.command_answers.proofs.streams.read_all.Given as goal
 
 abbrev pub invariant-loop-bytes : goal.invariant-loop-bytes
 invariant-loop-bytes g l = record {

@@ -2,16 +2,18 @@
 ghost use Rattle.std.specs.Prelude.{◌≡◌, ◌+◌, ◌++◌, ◌<◌, ◌≤◌, ℕ, List, length, IfOk, OnOk, IsErrOf};
 ghost use Rattle.std.specs.Io.KnownBytes.{Appends, Consumes, IsAtEnd};
 ghost use Rattle.io_ports.specs.Causes.{HasCause, Rose};
-ghost use Rattle.bits_top.specs.Stream.{AppendsPrefix, ConsumesAtMost, ReadsUpTo};
-ghost use Rattle.bits_top.specs.declared.streams.ReadError.TheVariants.{Fault, Memory};
+ghost use Rattle.command_answers.specs.Stream.{AppendsPrefix, ConsumesAtMost, ReadsUpTo};
+ghost use Rattle.command_answers.specs.declared.streams.ReadError.TheVariants.{Fault, Memory};
 
 use io_ports::{Failed, Sink, Source};
 use std::alloc::{AllocError, Global};
 
-// Why a source was not read.
+/// Why a source was not read.
 #[derive(Clone, Copy, Debug, PartialEq, Eq)]
-pub(crate) enum ReadError {
+pub enum ReadError {
+    /// A read failed: the source's count of faults rose.
     Fault,
+    /// No memory was left.
     Memory,
 }
 
@@ -55,12 +57,13 @@ fn read_piece<S: Source>(
     Ok(count)
 }
 
-// Reads the source to its end, or one byte past the limit. Each turn takes at least a byte.
-pub(crate) fn read_all<S: Source>(
-    alloc: Global,
-    source: &mut S,
-    limit: u32,
-) -> Result<Vec<u8>, ReadError>
+/// The bytes of the source to its end, or one byte past the limit (both in bytes).
+///
+/// # Errors
+///
+/// `Fault` where a read failed, `Memory` for want of memory.
+// Each turn takes at least a byte.
+pub fn read_all<S: Source>(alloc: Global, source: &mut S, limit: u32) -> Result<Vec<u8>, ReadError>
     ensures read { IfOk result (λ bytes. ReadsUpTo (S.left source.old) (S.left source.new) limit bytes.items) }
     ensures takes { ConsumesAtMost (S.left source.old) (S.left source.new) (limit + 1) }
     ensures later { S.faults source.old ≤ S.faults source.new }
@@ -77,8 +80,8 @@ pub(crate) fn read_all<S: Source>(
     Ok(bytes)
 }
 
-// Writes the bytes whole, or a prefix of them where the sink fails.
-pub(crate) fn write_all<K: Sink>(sink: &mut K, bytes: &[u8]) -> Result<(), Failed>
+/// Writes the bytes whole, or a prefix of them where the sink fails.
+pub fn write_all<K: Sink>(sink: &mut K, bytes: &[u8]) -> Result<(), Failed>
     ensures done { OnOk result (Appends (K.written sink.old) (K.written sink.new) bytes.now) }
     ensures prefix { AppendsPrefix (K.written sink.old) (K.written sink.new) bytes.now }
     ensures cause { HasCause (K.faults sink.old) (K.faults sink.new) result }

@@ -1,6 +1,6 @@
 use Rattle.std.proofs.Common.{arith}
-use Rattle.bits_top.proofs.Written.{appends_more}
-use Rattle.bits_top.proofs.streams.write_all.Goals as goal
+use Rattle.command_answers.proofs.Written.{appends_more}
+use Rattle.command_answers.proofs.streams.write_all.Goals as goal
 
 pub loop-at-preserved : goal.loop-at-preserved
 loop-at-preserved g c = record {

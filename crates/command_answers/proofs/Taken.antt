@@ -2,7 +2,7 @@
 use Rattle.std.proofs.Common.{◌≡◌, ℕ, ◌+◌, ◌≤◌, List, ◌++◌, length, Option, arith, length-append}
 use Rattle.std.proofs.KnownBytes.{Consumes-trans}
 use Rattle.std.specs.Io.KnownBytes.{Consumes}
-use Rattle.bits_top.specs.Stream.{ConsumesAtMost}
+use Rattle.command_answers.specs.Stream.{ConsumesAtMost}
 
 pub taken_more : (a b c : Option (List ℕ)) (bytes : List ℕ) (missing most : ℕ) → Consumes a b bytes → ConsumesAtMost b c missing → length bytes + missing ≤ most → ConsumesAtMost a c most
 taken_more a b c bytes missing most first second bound = record {

@@ -1,6 +1,6 @@
 use Rattle.std.proofs.Common.{◌+◌, arith}
-use Rattle.bits_top.proofs.Taken.{taken_more}
-use Rattle.bits_top.proofs.streams.read_all.Goals as goal
+use Rattle.command_answers.proofs.Taken.{taken_more}
+use Rattle.command_answers.proofs.streams.read_all.Goals as goal
 
 pub returns-in_err-read_piece-clause-takes : goal.returns-in_err-read_piece-clause-takes
 returns-in_err-read_piece-clause-takes g c =

@@ -1,0 +1,5 @@
+pub mod Answer
+pub mod Complete
+pub mod Laws
+pub mod Stream
+pub mod Whole
