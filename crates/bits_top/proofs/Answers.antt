@@ -3,8 +3,8 @@ use Rattle.std.proofs.Common.{◌≡◌, ℕ, ◌≤◌, List, [], ◌∷◌, le
 use Rattle.std.proofs.lemmas.Fmt.{decimal_injective}
 use Rattle.command_answers.specs.Answer.{Port, Untouched}
 use Rattle.command_answers.proofs.Answers.{same_text}
-use Rattle.bits_top.specs.Answer.{IsAccepted, IsRefusedWith, IsTable, AnswersRefusal, AnswersAccepted, AnswersRun, CantRun, IsSmooth, IsSmoothRefusal, IsDoneOrNoMemory, IsRefusedOrNoMemory}
-use Rattle.bits_top.specs.Command.{Spells, SpellsCheck, SpellsRun}
+use Rattle.bits_top.specs.Answer.{IsAcceptedForm, IsRefusedWith, IsTable, AnswersRefusal, AnswersAccepted, AnswersRun, CantRun, IsSmooth, IsSmoothRefusal, IsDoneOrNoMemory, IsRefusedOrNoMemory}
+use Rattle.bits_top.specs.Command.{SpellsCommand, SpellsCheck, SpellsRun}
 use Rattle.bits_top.specs.declared.command.Command.{Command}
 use Rattle.bits_top.specs.declared.command.Command.TheVariants as made
 use Rattle.std.proofs.Math.Logic.{∥∥₁_map}
@@ -29,7 +29,7 @@ refusal_answers OrderFault reductions text line source report order read same h 
 refusal_answers NoMemory reductions text line source report order read same h = absurd h
 refusal_answers BadOrder reductions text line source report order read same h = h
 
-pub accepted_answers : (status : Status) (reductions : ℕ) (text : List ℕ) (tree : Module) (source report order : Port) → (read : IsAccepted source text tree) → IsTreeOf tree read.straight → IsTable tree.atoms →
+pub accepted_answers : (status : Status) (reductions : ℕ) (text : List ℕ) (tree : Module) (source report order : Port) → (read : IsAcceptedForm source text tree) → IsTreeOf tree read.straight → IsTable tree.atoms →
     AnswersAccepted reductions read.straight status report order → AnswersRun reductions status source report order
 accepted_answers Done reductions text tree source report order read of table h =
     record { text = text; tree = tree; read = read; order_text = h.order_text; report_text = h.report_text; run = ∥∥₁_map read.numbered (h.run tree read.numbers of table); ordered = h.ordered; reported = h.reported }
@@ -48,7 +48,7 @@ two_words : (words : List (List ℕ)) (a b c d e : List ℕ) → words ≡ codes
 two_words words a b c d e h k = cc
 
 -- words spell one command
-pub spelled_once : (words : List (List ℕ)) (command : Command) (run : Run) → Spells words command → SpellsRun words run → command ≡ made.Run run
+pub spelled_once : (words : List (List ℕ)) (command : Command) (run : Run) → SpellsCommand words command → SpellsRun words run → command ≡ made.Run run
 spelled_once words (made.Run asked) run h k =
     let s : h.schedulers ≡ k.schedulers = cc (h.words_are, k.words_are) in
     let r : h.reductions ≡ k.reductions = cc (h.words_are, k.words_are) in
@@ -110,7 +110,7 @@ smooth_done ReportFault reductions source report order h s = elim h [
 smooth_done OrderFault reductions source report order h s = absurd (s.well.order_well h.fault)
 smooth_done BadOrder reductions source report order h s = absurd h
 
-accepted_not : (source : Port) (held text : List ℕ) (tree : Module) → source.before ≡ Some text → IsAccepted source held tree → CantRun text → ⊥
+accepted_not : (source : Port) (held text : List ℕ) (tree : Module) → source.before ≡ Some text → IsAcceptedForm source held tree → CantRun text → ⊥
 accepted_not source held text tree told read h =
     let e : text ≡ held = same_text source.before held text told read.whole.held in
     not_both text tree read.straight (rw e read.whole.short) (rw e read.whole.accepts) (rw e read.form) h

@@ -16,7 +16,7 @@ use Rattle.bits_top.specs.declared.matching.Binding.{Binding}
 use Rattle.bits_top.specs.declared.run.Ending.{Ending}
 use Rattle.bits_top.specs.declared.run.Ending.TheVariants as ended
 use Rattle.bits_top.specs.declared.run.Progress.{Progress}
-use Rattle.bits_top.specs.declared.run.Outcome.{Outcome}
+use Rattle.bits_top.specs.declared.run.WholeRun.{WholeRun}
 
 -- bindings
 
@@ -103,7 +103,7 @@ returned s r i progress past h =
     let last : Stands s r progress [] = subst (λ items. Stands s r progress items) (drop_all i s.items past) h in
     record { shown = sym (append-nil progress.shown.items) ∙ last.shown; ending = last.ending; entries = last.entries }
 
-pub ok_finished : {E : Type 0} (s : Straight) (r : ℕ) (progress : Progress) (how : Ending) (result : Result Outcome E) → Ends s r progress how →
+pub ok_finished : {E : Type 0} (s : Straight) (r : ℕ) (progress : Progress) (how : Ending) (result : Result WholeRun E) → Ends s r progress how →
     IfOk result (λ outcome. Finishes progress how outcome) → IfOk result (λ outcome. HasRun s r outcome)
 ok_finished s r progress how (Ok outcome) h f = record {
   shown = f.shown ∙ h.shown;

@@ -10,10 +10,10 @@ use Rattle.first_form.specs.declared.form.Straight.{Straight}
 use Rattle.term_value.specs.Orders.{order_text}
 use Rattle.bits_top.specs.Runs.{HasRun, report_of}
 use Rattle.command_answers.specs.Whole.{IsRunOf}
-use Rattle.bits_top.specs.declared.run.Outcome.{Outcome}
+use Rattle.bits_top.specs.declared.run.WholeRun.{WholeRun}
 use Rattle.bits_top.proofs.SameRuns.{same_run}
 
-pub same_run_read : (numbers : List (List VarUse)) (m : Module) (others : List (List ℕ)) (s : Straight) (r : ℕ) (outcome : Outcome) (order report : List ℕ) → IsReadAs numbers m s →
+pub same_run_read : (numbers : List (List VarUse)) (m : Module) (others : List (List ℕ)) (s : Straight) (r : ℕ) (outcome : WholeRun) (order report : List ℕ) → IsReadAs numbers m s →
     m.atoms ≡ fixed_atoms ++ others → IsStraight s → All IsShort s.items → 1 ≤ r → HasRun s r outcome → order ≡ order_text outcome.entries → report ≡ report_of outcome.shown outcome.ending →
     IsRunOf (module_of numbers m) r order report
 same_run_read numbers m others s r outcome order report read table formed short some run ordered reported =

@@ -32,7 +32,7 @@ use Rattle.bits_top.proofs.SameWalks.{asks_resting, starts, asks_first}
 use Rattle.bits_top.specs.declared.matching.Binding.{Binding}
 use Rattle.bits_top.specs.declared.run.Ending.{Ending}
 use Rattle.bits_top.specs.declared.run.Ending.TheVariants.{Normal, Exhausted}
-use Rattle.bits_top.specs.declared.run.Outcome as ran
+use Rattle.bits_top.specs.declared.run.WholeRun as ran
 use Rattle.first_form.specs.declared.form.Item.{Item}
 use Rattle.first_form.specs.declared.form.Item.TheVariants.{Match, Display}
 use Rattle.first_form.specs.declared.form.Straight.{Straight}
@@ -122,7 +122,7 @@ whole_start number atoms name main s r called =
     ap (λ f. beginning code r (first_of code r 1 name f none)) called ∙ ap (beginning code r) (starts number atoms name main s r)
 
 -- whatever the numbers of the variables, where they are different ones
-pub same_run : (number : ℕ → ℕ) (atoms others : List (List ℕ)) (name main : ℕ) (s : Straight) (r : ℕ) (outcome : ran.Outcome) (order report : List ℕ) → AreApart number s →
+pub same_run : (number : ℕ → ℕ) (atoms others : List (List ℕ)) (name main : ℕ) (s : Straight) (r : ℕ) (outcome : ran.WholeRun) (order report : List ℕ) → AreApart number s →
     atoms ≡ fixed_atoms ++ others → number_in atoms (codes "main") ≡ main → IsStraight s → All IsShort s.items → 1 ≤ r → HasRun s r outcome → order ≡ order_text outcome.entries →
     report ≡ report_of outcome.shown outcome.ending → IsRunOf (module_by number atoms name main s) r order report
 same_run number atoms others name main s zero outcome order report apart table called formed short some run ordered reported = absurd (omega (arith, some))

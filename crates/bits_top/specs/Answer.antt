@@ -20,7 +20,7 @@ abbrev pub TookPrefix : Port → List ℕ → Type 0
 TookPrefix p bytes = AppendsPrefix p.before p.after bytes
 
 -- The source held the text of an accepted module of today's form; and these are the variables of each of the module's functions.
-pub record IsAccepted (source : Port) (text : List ℕ) (tree : Module) : Type 0 where
+pub record IsAcceptedForm (source : Port) (text : List ℕ) (tree : Module) : Type 0 where
   pub whole : IsWhole source text tree
   pub numbers : List (List VarUse)
   pub numbered : ∥ AreNumbered tree.functions numbers ∥₁
@@ -52,7 +52,7 @@ IsRun tree numbers reductions order report = ∥ IsRunOf (module_of numbers tree
 pub record IsDone (reductions : ℕ) (source report order : Port) : Type 0 where
   pub text : List ℕ
   pub tree : Module
-  pub read : IsAccepted source text tree
+  pub read : IsAcceptedForm source text tree
   pub order_text : List ℕ
   pub report_text : List ℕ
   pub run : IsRun tree read.numbers reductions order_text report_text
@@ -67,7 +67,7 @@ pub record IsRefused (source report order : Port) : Type 0 where
   pub reported : Took report line
   pub ordered : Untouched order
 
-pub record IsReadFault (source report order : Port) : Type 0 where
+pub record IsRunUnread (source report order : Port) : Type 0 where
   pub fault : Faulted source
   pub reported : Untouched report
   pub ordered : Untouched order
@@ -75,7 +75,7 @@ pub record IsReadFault (source report order : Port) : Type 0 where
 pub record IsOrderFault (reductions : ℕ) (source report order : Port) : Type 0 where
   pub text : List ℕ
   pub tree : Module
-  pub read : IsAccepted source text tree
+  pub read : IsAcceptedForm source text tree
   pub order_text : List ℕ
   pub report_text : List ℕ
   pub run : IsRun tree read.numbers reductions order_text report_text
@@ -87,7 +87,7 @@ pub record IsOrderFault (reductions : ℕ) (source report order : Port) : Type 0
 pub record IsReportFaultOfRun (reductions : ℕ) (source report order : Port) : Type 0 where
   pub text : List ℕ
   pub tree : Module
-  pub read : IsAccepted source text tree
+  pub read : IsAcceptedForm source text tree
   pub order_text : List ℕ
   pub report_text : List ℕ
   pub run : IsRun tree read.numbers reductions order_text report_text
@@ -109,7 +109,7 @@ abbrev pub AnswersRun : ℕ → Status → Port → Port → Port → Type 0
 AnswersRun reductions Done source report order = IsDone reductions source report order
 AnswersRun reductions Refused source report order = IsRefused source report order
 AnswersRun reductions Usage source report order = ⊥
-AnswersRun reductions ReadFault source report order = IsReadFault source report order
+AnswersRun reductions ReadFault source report order = IsRunUnread source report order
 AnswersRun reductions ReportFault source report order = IsReportFaultOfRun reductions source report order ⊎ IsReportFaultOfRefusal source report order
 AnswersRun reductions OrderFault source report order = IsOrderFault reductions source report order
 AnswersRun reductions NoMemory source report order = AreUntouched report order

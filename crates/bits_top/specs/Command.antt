@@ -29,6 +29,6 @@ pub record SpellsCheck (words : List (List ℕ)) : Type 0 where
   pub source_some : 0 < length source
 
 -- the words of a command
-abbrev pub Spells : List (List ℕ) → Command → Type 0
-Spells words (c.Run run) = SpellsRun words run
-Spells words c.Check = SpellsCheck words
+abbrev pub SpellsCommand : List (List ℕ) → Command → Type 0
+SpellsCommand words (c.Run run) = SpellsRun words run
+SpellsCommand words c.Check = SpellsCheck words

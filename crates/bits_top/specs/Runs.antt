@@ -16,7 +16,7 @@ use Rattle.first_form.specs.declared.form.Straight.{Straight}
 use Rattle.bits_top.specs.declared.matching.Binding.{Binding}
 use Rattle.bits_top.specs.declared.run.Ending.{Ending}
 use Rattle.bits_top.specs.declared.run.Ending.TheVariants.{Normal, Exhausted}
-use Rattle.bits_top.specs.declared.run.Outcome.{Outcome}
+use Rattle.bits_top.specs.declared.run.WholeRun.{WholeRun}
 use Rattle.bits_top.specs.declared.run.Progress.{Progress}
 
 -- The parts of a bit expression as bits: each part's integer in the part's size, one behind another. It is proved in
@@ -60,7 +60,7 @@ abbrev pub end_entries : List Entry
 end_entries = Ended 1 ∷ Gone 1 0 0 0 ∷ []
 
 -- a whole run, of which the call of `main/0` takes the first reduction
-pub record HasRun (straight : Straight) (reductions : ℕ) (outcome : Outcome) : Type 0 where
+pub record HasRun (straight : Straight) (reductions : ℕ) (outcome : WholeRun) : Type 0 where
   pub shown : outcome.shown ≡ shown_of [] straight.items (reductions - 1)
   pub ending : outcome.ending ≡ ending_of [] straight.items (reductions - 1)
   pub entries : outcome.entries ≡ shown_entries outcome.shown ++ end_entries
@@ -93,7 +93,7 @@ Advances false (Match fields parts) old new = ⊥
 Advances false (Display variable) old new = Exhausts old new
 
 -- what a run comes to after its items
-pub record Finishes (progress : Progress) (how : Ending) (outcome : Outcome) : Type 0 where
+pub record Finishes (progress : Progress) (how : Ending) (outcome : WholeRun) : Type 0 where
   pub shown : outcome.shown ≡ progress.shown.items
   pub ending : outcome.ending ≡ how
   pub entries : outcome.entries ≡ progress.entries.items ++ end_entries

@@ -1,6 +1,6 @@
 // The words of a command line.
 ghost use Rattle.std.specs.Prelude.{◌≡◌, ◌≤◌, ◌<◌, ℕ, List, map, string_bytes, MatchOption};
-ghost use Rattle.bits_top.specs.Command.{Spells, SpellsCheck, SpellsNumber, SpellsRun};
+ghost use Rattle.bits_top.specs.Command.{SpellsCommand, SpellsCheck, SpellsNumber, SpellsRun};
 ghost use Rattle.bits_top.specs.declared.command.Command.{Command};
 ghost use Rattle.bits_top.specs.declared.command.Run.{Run};
 
@@ -71,7 +71,7 @@ fn check_of(words: &[String]) -> Option<()>
 
 // The command that the words spell, if they spell one.
 pub(crate) fn command_of(words: &[String]) -> Option<Command>
-    ensures { MatchOption result ((command : Command) → Spells (map string_bytes words.now) command → ⊥) (λ command. Spells (map string_bytes words.now) command) }
+    ensures { MatchOption result ((command : Command) → SpellsCommand (map string_bytes words.now) command → ⊥) (λ command. SpellsCommand (map string_bytes words.now) command) }
 {
     if let Some(run) = run_of(words) {
         return Some(Command::Run(run));

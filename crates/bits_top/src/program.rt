@@ -3,7 +3,7 @@ ghost use Rattle.std.specs.Prelude.{◌≡◌, ◌≤◌, ◌↔◌, ◌+◌, �
 ghost use Rattle.bits_top.specs.Answer.{AnswersAccepted, AnswersRefusal, AnswersRun, IsDoneOrNoMemory, IsRefusedOrNoMemory, IsSmooth, IsSmoothRefusal, RunsEach};
 ghost use Rattle.command_answers.specs.Answer.{AnswersCheck, Untouched, port};
 ghost use Rattle.command_answers.specs.Complete.{ChecksWell};
-ghost use Rattle.bits_top.specs.Command.{Spells};
+ghost use Rattle.bits_top.specs.Command.{SpellsCommand};
 ghost use Rattle.command_answers.specs.Stream.{ConsumesAtMost};
 ghost use Rattle.erl_syntax.specs.Reading.{longest_text};
 ghost use Rattle.first_form.specs.Form.{IsShort, IsStraight};
@@ -37,34 +37,34 @@ pub fn top<R: Threads + Wait + Sync, S: Source, T: Source, A: Sink, B: Sink, G: 
     order_out: &mut B,
     gate: &G,
 ) -> Status
-    ensures usage { result ≡ Status.Usage ↔ ((command : Command) → Spells (map string_bytes words.now) command → ⊥) }
+    ensures usage { result ≡ Status.Usage ↔ ((command : Command) → SpellsCommand (map string_bytes words.now) command → ⊥) }
     ensures idle { result ≡ Status.Usage →
         Untouched (port S.left S.faults «module».old «module».new)
         × Untouched (port T.left T.faults order_in.old order_in.new)
         × Untouched (port A.written A.faults report.old report.new)
         × Untouched (port B.written B.faults order_out.old order_out.new) }
-    ensures run { (run : Run) → Spells (map string_bytes words.now) (Command.Run run) → AnswersRun run.reductions result
+    ensures run { (run : Run) → SpellsCommand (map string_bytes words.now) (Command.Run run) → AnswersRun run.reductions result
         (port S.left S.faults «module».old «module».new)
         (port A.written A.faults report.old report.new)
         (port B.written B.faults order_out.old order_out.new) }
-    ensures run_leaves { (run : Run) → Spells (map string_bytes words.now) (Command.Run run) → Untouched (port T.left T.faults order_in.old order_in.new) }
-    ensures complete { (run : Run) → Spells (map string_bytes words.now) (Command.Run run) → IsSmooth
+    ensures run_leaves { (run : Run) → SpellsCommand (map string_bytes words.now) (Command.Run run) → Untouched (port T.left T.faults order_in.old order_in.new) }
+    ensures complete { (run : Run) → SpellsCommand (map string_bytes words.now) (Command.Run run) → IsSmooth
         (port S.left S.faults «module».old «module».new)
         (port A.written A.faults report.old report.new)
         (port B.written B.faults order_out.old order_out.new)
         → IsDoneOrNoMemory result }
-    ensures refuses { (run : Run) → Spells (map string_bytes words.now) (Command.Run run) → IsSmoothRefusal
+    ensures refuses { (run : Run) → SpellsCommand (map string_bytes words.now) (Command.Run run) → IsSmoothRefusal
         (port S.left S.faults «module».old «module».new)
         (port A.written A.faults report.old report.new)
         (port B.written B.faults order_out.old order_out.new)
         → IsRefusedOrNoMemory result }
-    ensures check { Spells (map string_bytes words.now) Command.Check → AnswersCheck result
+    ensures check { SpellsCommand (map string_bytes words.now) Command.Check → AnswersCheck result
         (port S.left S.faults «module».old «module».new)
         (port A.written A.faults report.old report.new) }
-    ensures check_leaves { Spells (map string_bytes words.now) Command.Check →
+    ensures check_leaves { SpellsCommand (map string_bytes words.now) Command.Check →
         Untouched (port T.left T.faults order_in.old order_in.new)
         × Untouched (port B.written B.faults order_out.old order_out.new) }
-    ensures checks { Spells (map string_bytes words.now) Command.Check → ChecksWell result
+    ensures checks { SpellsCommand (map string_bytes words.now) Command.Check → ChecksWell result
         (port S.left S.faults «module».old «module».new)
         (port A.written A.faults report.old report.new) }
     ensures takes { ConsumesAtMost (S.left «module».old) (S.left «module».new) (longest_text + 1) }

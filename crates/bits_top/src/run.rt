@@ -22,7 +22,7 @@ pub(crate) enum Ending {
 
 // A whole run: its entries in order, what was displayed, and how it ended.
 #[derive(Debug, Drop)]
-pub(crate) struct Outcome {
+pub(crate) struct WholeRun {
     pub entries: Listed<Entry>,
     pub shown: Listed<i128>,
     pub ending: Ending,
@@ -75,7 +75,7 @@ fn advance(alloc: Global, progress: &mut Progress, item: &Item) -> Result<bool, 
 }
 
 // Enters the end of process 1, which moved no bits of a shared buffer and had none.
-fn finish(progress: Progress, ending: Ending) -> Result<Outcome, AllocError>
+fn finish(progress: Progress, ending: Ending) -> Result<WholeRun, AllocError>
     ensures { IfOk result (λ outcome. Finishes progress ending outcome) }
 {
     let ended = Entry::Ended { pid: 1 };
@@ -88,7 +88,7 @@ fn finish(progress: Progress, ending: Ending) -> Result<Outcome, AllocError>
     let mut entries = progress.entries;
     entries.push(ended)?;
     entries.push(gone)?;
-    Ok(Outcome {
+    Ok(WholeRun {
         entries: Listed::of(entries),
         shown: Listed::of(progress.shown),
         ending,
@@ -100,7 +100,7 @@ pub(crate) fn run(
     alloc: Global,
     straight: &Straight,
     reductions: u32,
-) -> Result<Outcome, AllocError>
+) -> Result<WholeRun, AllocError>
     requires formed { IsStraight straight.now }
     requires short { All IsShort straight.now.items }
     requires some { 1 ≤ reductions }

@@ -92,7 +92,7 @@ pub record IsRefused (source report : Port) : Type 0 where
   pub refused : IsRefusedWith source line
   pub reported : Took report line
 
-pub record IsReadFault (source report : Port) : Type 0 where
+pub record IsUnread (source report : Port) : Type 0 where
   pub fault : Faulted source
   pub reported : Untouched report
 
@@ -105,7 +105,7 @@ pub record IsLineUnwritten (source report : Port) : Type 0 where
 -- What a command answers that has no module to go on with: its text is refused or can't be read, or memory was wanting.
 abbrev pub AnswersUnopened : Status → Port → Port → Type 0
 AnswersUnopened s.Refused source report = IsRefused source report
-AnswersUnopened s.ReadFault source report = IsReadFault source report
+AnswersUnopened s.ReadFault source report = IsUnread source report
 AnswersUnopened s.ReportFault source report = IsLineUnwritten source report
 AnswersUnopened s.NoMemory source report = Untouched report
 AnswersUnopened _ source report = ⊥
@@ -190,7 +190,7 @@ abbrev pub AnswersCopied : ℕ → Status → Port → Port → Module → Type 
 AnswersCopied reductions s.Done order_in report code = IsCopied code reductions s.Done order_in report
 AnswersCopied reductions s.BadOrder order_in report code = IsBadOrder code reductions s.BadOrder order_in report
 AnswersCopied reductions s.ReportFault order_in report code = IsCopied code reductions s.ReportFault order_in report ⊎ IsBadOrder code reductions s.ReportFault order_in report
-AnswersCopied reductions s.ReadFault order_in report code = IsReadFault order_in report
+AnswersCopied reductions s.ReadFault order_in report code = IsUnread order_in report
 AnswersCopied reductions s.NoMemory order_in report code = Untouched report
 AnswersCopied reductions _ order_in report code = ⊥
 
