@@ -43,7 +43,7 @@ asked_for code l k ask r h = sym (ask_reached code l k r.cost r.made (Wants ask 
 start_asked : (code : Module) (k : Local) (module_name function : ℕ) (list : Value) → AsksStart code k module_name function list → AsksFor code k (Start module_name function (arguments_of list))
 start_asked code k module_name function list h = subst (λ (vs : Values). AsksFor code k (Start module_name function vs)) (sym (ap arguments_of h.are)) h.asks
 
-abbrev Tells : asking.Asking → NextAsk → Type 0
+abbrev pub Tells : asking.Asking → NextAsk → Type 0
 Tells (a.Send to v) n = (next : Value → Local) × (n ≡ Wants (SendTo to (value v)) next)
 Tells (a.Show v) n = (next : Value → Local) × (n ≡ Wants (Show (value v)) next)
 Tells (a.Start module_name function vs) n = (next : Value → Local) × (n ≡ Wants (Start module_name function (arguments_of (value vs))) next)
@@ -51,7 +51,7 @@ Tells a.More n = (state : Local) × (n ≡ WantsMore state)
 Tells a.Done n = n ≡ EndsDone
 Tells (a.Raised reason) n = n ≡ EndsRaised (value reason)
 
-tells : (code : Module) (l k : Local) → Runs code l k → (ask : asking.Asking) → IsAsking code k ask → Tells ask (ask_of code l)
+pub tells : (code : Module) (l k : Local) → Runs code l k → (ask : asking.Asking) → IsAsking code k ask → Tells ask (ask_of code l)
 tells code l k r (a.Send to v) h = (h.next, asked_for code l k (SendTo to (value v)) r h)
 tells code l k r (a.Show v) h = (h.next, asked_for code l k (Show (value v)) r h)
 tells code l k r (a.Start module_name function vs) h =
@@ -114,7 +114,7 @@ end_told code a.Done n ending e t = let same : ending ≡ ends.Normal = cc e in 
 end_told code (a.Raised reason) n ending e t =
     let same : ending ≡ ends.Exit (text (name_in code) (value reason)) = cc e in (m.Exit (value reason), same, λ machine pid. ap (λ (x : NextAsk). m.ends machine pid (Some x)) t)
 
-more_told : (code : Module) (k : Local) (ask : asking.Asking) → is_more (Some ask) ≡ true → IsAsking code k ask → AwaitsMessages code k
+pub more_told : (code : Module) (k : Local) (ask : asking.Asking) → is_more (Some ask) ≡ true → IsAsking code k ask → AwaitsMessages code k
 more_told code k (a.Send receiver v) e h = absurd (cc e)
 more_told code k (a.Show v) e h = absurd (cc e)
 more_told code k (a.Start module_name function vs) e h = absurd (cc e)
@@ -122,7 +122,7 @@ more_told code k a.More e h = h
 more_told code k a.Done e h = absurd (cc e)
 more_told code k (a.Raised reason) e h = absurd (cc e)
 
-more_for : (code : Module) (l k : Local) → Runs code l k → (h : AwaitsMessages code k) → ask_of code l ≡ WantsMore h.state
+pub more_for : (code : Module) (l k : Local) → Runs code l k → (h : AwaitsMessages code k) → ask_of code l ≡ WantsMore h.state
 more_for code l k r h = sym (ask_reached code l k r.cost r.made (WantsMore h.state) r.path (ap asked h.asks))
 
 some_same : {X : Type 0} {x y : X} → Some x ≡ Some y → x ≡ y
@@ -241,7 +241,7 @@ module _ {P : Type 0} (code_of : P → Module) (local_of : P → Local) (waits_o
     stands = subst (λ (o : Option asking.Asking). StandsAt code_of local_of waits_of new.process o) (sym s.is) (s.waits, s.asks);
   }
 
-  asks_in : (code : Module) (l : Local) (vs : List Value) (old new : Actor P) → Plays code_of local_of waits_of code l vs old → (s : Settles code_of local_of waits_of old new) → IsAsking code (local_of new.process) s.ask
+  pub asks_in : (code : Module) (l : Local) (vs : List Value) (old new : Actor P) → Plays code_of local_of waits_of code l vs old → (s : Settles code_of local_of waits_of old new) → IsAsking code (local_of new.process) s.ask
   asks_in code l vs old new p s = subst (λ (x : Module). IsAsking x (local_of new.process) s.ask) (s.code ∙ p.code) s.asks
 
   -- as what the process goes on that is answered

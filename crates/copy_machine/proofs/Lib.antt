@@ -1,4 +1,7 @@
 pub mod Acts
 pub mod Arities
+pub mod Machines
 pub mod Paths
 pub mod Places
+pub mod Rests
+pub mod Rows

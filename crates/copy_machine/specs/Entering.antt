@@ -1,5 +1,5 @@
 -- What an entry does to its process, and to the machine (this project's own).
-use Rattle.std.specs.Prelude.{◌≡◌, ℕ, Bool, true, false, length, Option, Some, None}
+use Rattle.std.specs.Prelude.{◌≡◌, ℕ, Bool, true, false, length, Option, Some, None, slice_get}
 use Rattle.term_value.specs.Value.{Value}
 use Rattle.term_value.specs.Tree.{Module}
 use Rattle.term_value.specs.Local.{Local}
@@ -31,6 +31,14 @@ pid_of (Full pid) = pid
 pid_of (Ended pid) = pid
 pid_of (Stopped pid) = pid
 pid_of (Gone pid births drops moved) = pid
+
+abbrev pub is_stop : Entry → Bool
+is_stop (Stopped pid) = true
+is_stop _ = false
+
+abbrev pub is_gone : Entry → Bool
+is_gone (Gone pid births drops moved) = true
+is_gone _ = false
 
 -- a process is stopped only while all are at rest
 abbrev pub IsTimely : Entry → m.Machine → Type 0
@@ -102,6 +110,27 @@ pub record Settles {P : Type 0} (code_of : P → Module) (local_of : P → Local
 abbrev pub Applies : {P : Type 0} → (P → Module) → (P → Local) → (P → Type 0) → m.Machine → Entry → Bool → Machine P → Type 0
 Applies code_of local_of waits_of machine entry true c = (next : m.Machine) × (m.applied machine entry ≡ Some next) × Follows code_of local_of waits_of next c
 Applies code_of local_of waits_of machine entry false c = (m.applied machine entry ≡ None) × Follows code_of local_of waits_of machine c
+
+-- whether the process at a place rests, or there is none
+abbrev pub rests_in : Module → Option m.Process → Bool
+rests_in code (Some process) = m.is_at_rest code process
+rests_in code None = true
+
+abbrev pub RestsAt : {P : Type 0} → (P → Module) → (P → Local) → (P → Type 0) → m.Machine → ℕ → Bool → Machine P → Type 0
+RestsAt code_of local_of waits_of machine index rests c = Follows code_of local_of waits_of machine c × (rests ≡ rests_in machine.code (slice_get machine.processes index))
+
+abbrev pub AllRest : {P : Type 0} → (P → Module) → (P → Local) → (P → Type 0) → m.Machine → Bool → Machine P → Type 0
+AllRest code_of local_of waits_of machine rest c = Follows code_of local_of waits_of machine c × (rest ≡ m.all_at_rest machine)
+
+-- the entry comes at its time, or it fits not
+abbrev pub MayEnter : {P : Type 0} → (P → Module) → (P → Local) → (P → Type 0) → m.Machine → Entry → Bool → Machine P → Type 0
+MayEnter code_of local_of waits_of machine entry true c = Follows code_of local_of waits_of machine c × IsTimely entry machine
+MayEnter code_of local_of waits_of machine entry false c = Follows code_of local_of waits_of machine c × (m.applied machine entry ≡ None)
+
+-- the entry leads to a machine in which its effect is still to come, or fits not
+abbrev pub Enters : {P : Type 0} → (P → Module) → (P → Local) → (P → Type 0) → m.Machine → Entry → Option (Effect P) → Machine P → Type 0
+Enters code_of local_of waits_of machine entry None c = (m.applied machine entry ≡ None) × Follows code_of local_of waits_of machine c
+Enters code_of local_of waits_of machine entry (Some effect) c = (next : m.Machine) × Follows code_of local_of waits_of next c × IsOfCode code_of next.code effect × (m.applied machine entry ≡ Some (took local_of effect next))
 
 -- the actor went on with the answer, and nothing else changed
 pub record Answers {P : Type 0} (code_of : P → Module) (local_of : P → Local) (answer : Value) (old new : Actor P) : Type 0 where

@@ -4,10 +4,11 @@ ghost use Rattle.code_tree.specs.PlainTerms.{value};
 ghost use Rattle.process_acts.specs.Acts.{AwaitsAnswer};
 ghost use Rattle.term_value.specs.Machine.{process_bound};
 ghost use Rattle.copy_machine.specs.Following.{StandsAt};
-ghost use Rattle.copy_machine.specs.Entering.{Acts, Answers, Setting, Settles, setting};
+ghost use Rattle.copy_machine.specs.Entering.{Acts, Answers, Rests, Setting, Settles, setting};
 
 use crate::act::{Act, Effect};
 use crate::asks::{called_by, ended_by, is_more, is_start, message_to, shown_by};
+use crate::ending::Ending;
 use crate::next_ask::next_ask;
 use crate::world::World;
 use code_tree::PlainTerm;
@@ -184,5 +185,36 @@ impl<P: Process + Drop> Actor<P> {
         } else {
             Ok(Act::Refused)
         }
+    }
+
+    /// Does what an entry of its process says.
+    ///
+    /// That the process may be stopped now, and that its pid is the entry's, is for the caller to see.
+    pub fn act(&mut self, world: &World<'_>, entry: Entry, started: usize) -> Result<Act<P>, AllocError>
+        requires { StandsAt P.code P.local P.waits self.old.process self.old.ask }
+        ensures { IfOk result (λ act. (s : Setting) → s ≡ setting world.now.code.now world.now.reductions started → Acts P.code P.local P.waits s entry self.old act self.new) }
+    {
+        match entry {
+            Entry::Sent { from: _, to } => Ok(self.send(to)?),
+            Entry::Saw { pid: _, count } => Ok(self.see(world.alloc, count)?),
+            Entry::Shown { pid: _ } => Ok(self.show()?),
+            Entry::Started { pid: _, child } => Ok(self.start(world, child, started)?),
+            Entry::Full { pid: _ } => Ok(self.fill(started)?),
+            Entry::Ended { pid: _ } => Ok(self.end(world)?),
+            Entry::Stopped { pid: _ } => Ok(Act::Ends(Ending::Waiting)),
+            Entry::Gone { .. } => Ok(Act::Refused),
+        }
+    }
+
+    /// Whether it waits: it asks for more messages, and has seen all.
+    pub fn is_at_rest(&mut self) -> Result<bool, AllocError>
+        requires { StandsAt P.code P.local P.waits self.old.process self.old.ask }
+        ensures { IfOk result (λ rests. Rests P.code P.local P.waits self.old rests self.new) }
+    {
+        if self.unseen.as_slice().len() > 0 {
+            return Ok(false);
+        }
+        self.settle()?;
+        Ok(is_more(&self.ask))
     }
 }

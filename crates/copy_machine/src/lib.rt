@@ -6,6 +6,7 @@ mod actor;
 mod asks;
 mod call;
 mod ending;
+mod entries;
 mod machine;
 mod next_ask;
 mod row;
