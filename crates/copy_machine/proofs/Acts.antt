@@ -1,5 +1,5 @@
 -- What comes of an actor's acts.
-use Rattle.std.proofs.Common.{◌≡◌, ℕ, ◌+◌, ◌≤◌, Bool, true, false, ◌&&◌, List, [], ◌++◌, length, map, Option, Some, None, is_some, refl, sym, ap, ◌∙◌, subst, arith}
+use Rattle.std.proofs.Common.{◌≡◌, ℕ, ◌+◌, Bool, true, false, ◌&&◌, List, [], ◌++◌, length, map, Option, Some, None, is_some, refl, sym, ap, ◌∙◌, subst}
 use Rattle.std.specs.Prelude.{nat_eq, nat_le}
 use Rattle.std.proofs.lemmas.Bool.{eqb-true, eq-eqb}
 use Rattle.std.proofs.lemmas.List.{length-map}
@@ -10,10 +10,10 @@ use Rattle.erl_syntax.specs.Atoms.{a_undef}
 use Rattle.term_value.specs.Seen.{Seen}
 use Rattle.term_value.specs.Tree.{Module}
 use Rattle.term_value.specs.Step.{Ask, SendTo, Show, Start, name_in}
-use Rattle.term_value.specs.Local.{Local, Fell, Next, Asking, ForMore, Done, Raised, next_of, NextAsk, Wants, WantsMore, EndsDone, EndsRaised, Unfinished, asked}
+use Rattle.term_value.specs.Local.{Local, Fell, next_of, NextAsk, Wants, WantsMore, EndsDone, EndsRaised, asked}
 use Rattle.term_value.specs.AskOf.{ask_of}
 use Rattle.term_value.specs.Machine as m
-use Rattle.term_value.specs.declared.entry.Entry.TheVariants.{Sent, Saw, Shown, Started, Full, Ended, Stopped, Gone}
+use Rattle.term_value.specs.declared.entry.Entry.TheVariants.{Sent, Saw, Shown, Started, Full, Ended}
 use Rattle.term_value.specs.declared.entry.Entry.{Entry}
 use Rattle.term_layers.proofs.Runs.{ask_reached}
 use Rattle.code_tree.specs.PlainTerms.{value}
@@ -22,8 +22,7 @@ use Rattle.process_acts.specs.Acts.{Runs, AsksFor, AsksStart, AwaitsAnswer, Awai
 use Rattle.process_acts.specs.declared.asking.Asking as asking
 use Rattle.process_acts.specs.declared.asking.Asking.TheVariants as a
 use Rattle.copy_machine.specs.Asks.{if_named, message_to, shown_by, called_by, is_start, is_more, ended_by, arguments_of}
-use Rattle.copy_machine.specs.Reaching.{Reaches}
-use Rattle.copy_machine.specs.Following.{StandsAt, Plays, IsRowOf, ending_of}
+use Rattle.copy_machine.specs.Following.{StandsAt, Plays, ending_of}
 use Rattle.copy_machine.specs.Entering.{Setting, IsIn, Acts, Settles, Answers, pid_of}
 use Rattle.copy_machine.specs.declared.act.Act.TheVariants.{Refused, Goes, Ends}
 use Rattle.copy_machine.specs.declared.act.Effect.TheVariants as f

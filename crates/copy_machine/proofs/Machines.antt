@@ -15,10 +15,9 @@ use Rattle.code_tree.specs.PlainTerms.{value}
 use Rattle.code_tree.specs.Reading.{module_of}
 use Rattle.process_acts.specs.Acts.{Runs}
 use Rattle.process_acts.specs.declared.asking.Asking.{Asking}
-use Rattle.copy_machine.specs.Following.{Plays, StandsAt, IsRowOf, IsSound, AreRows, Follows, IsFollower}
-use Rattle.copy_machine.specs.Entering.{Setting, setting, IsIn, IsTimely, IsEffect, IsOfCode, Does, Enters, RestsAt, rests_in, pid_of, took}
+use Rattle.copy_machine.specs.Following.{StandsAt, IsRowOf, IsSound, AreRows, Follows, IsFollower}
+use Rattle.copy_machine.specs.Entering.{Setting, setting, IsTimely, IsEffect, AllRest, Enters, RestsAt, rests_in, pid_of, took}
 use Rattle.copy_machine.specs.declared.act.Effect.{Effect}
-use Rattle.copy_machine.specs.declared.act.Effect.TheVariants as f
 use Rattle.copy_machine.specs.declared.machine.Machine.{Machine}
 use Rattle.copy_machine.specs.declared.row.Row.{Row}
 use Rattle.copy_machine.specs.declared.row.Row.TheVariants as r
@@ -72,7 +71,7 @@ module _ {P : Type 0} (code_of : P → Module) (local_of : P → Local) (waits_o
       let w = row_at code_of local_of waits_of machine.code machine.processes old.rows.items index row h.rows e in
       let d = each machine.code w.0 w.2 in (
         with_rows machine old new h world shown machine.processes
-        (subst (λ (xs : List (Row P)). AreRows code_of local_of waits_of machine.code machine.processes xs) (sym is) (kept_row code_of local_of waits_of machine.code machine.processes old.rows.items index w.0 now h.rows w.1 d.0)),
+            (subst (λ (xs : List (Row P)). AreRows code_of local_of waits_of machine.code machine.processes xs) (sym is) (kept_row code_of local_of waits_of machine.code machine.processes old.rows.items index w.0 now h.rows w.1 d.0)),
         d.1 ∙ ap (rests_in machine.code) (sym w.1),
       )
 
@@ -97,29 +96,29 @@ module _ {P : Type 0} (code_of : P → Module) (local_of : P → Local) (waits_o
 
   -- ---- An entry of a process
 
-  pub enters_row : (entry : Entry) (i : ℕ) (row now : Row P) (effect : Option (Effect P)) (old new : Machine P) → pid_of entry ≡ suc i → slice_get old.rows.items i ≡ Some row
-      → ((s : Setting) → s ≡ setting old.world.code.now old.world.reductions (length old.rows.items) → (p : m.Process) → IsRowOf code_of local_of waits_of s.code p row → IsEffect code_of local_of waits_of s entry p effect now)
+  pub enters_row : (entry : Entry) (started i : ℕ) (row now : Row P) (effect : Option (Effect P)) (old new : Machine P) → started ≡ length old.rows.items → pid_of entry ≡ suc i → slice_get old.rows.items i ≡ Some row
+      → ((s : Setting) → s ≡ setting old.world.code.now old.world.reductions started → (p : m.Process) → IsRowOf code_of local_of waits_of s.code p row → IsEffect code_of local_of waits_of s entry p effect now)
       → new.world ≡ old.world → new.shown.items ≡ old.shown.items → new.rows.items ≡ slice_set old.rows.items i now
       → (machine : m.Machine) → Follows code_of local_of waits_of machine old → IsTimely entry machine → Enters code_of local_of waits_of machine entry effect new
-  enters_row entry i row now None old new e at each world shown is machine h timely =
+  enters_row entry started i row now None old new many e at each world shown is machine h timely =
       let s : Setting = record { code = machine.code; reductions = machine.reductions; started = length machine.processes } in
       let w = row_at code_of local_of waits_of machine.code machine.processes old.rows.items i row h.rows at in
-      let same : s ≡ setting old.world.code.now old.world.reductions (length old.rows.items) = alike machine old h in
+      let same : s ≡ setting old.world.code.now old.world.reductions started = alike machine old h ∙ ap (setting old.world.code.now old.world.reductions) (sym many) in
       let d = each s same w.0 w.2 in
       let stands : m.process_at machine (pid_of entry) ≡ Some w.0 = ap (m.process_at machine) e ∙ w.1 in (
         d.1 machine (record { code = refl; reductions = refl; started = refl; stands = stands; timely = timely }),
         with_rows machine old new h world shown machine.processes
-        (subst (λ (xs : List (Row P)). AreRows code_of local_of waits_of machine.code machine.processes xs) (sym is) (kept_row code_of local_of waits_of machine.code machine.processes old.rows.items i w.0 now h.rows w.1 d.0)),
+            (subst (λ (xs : List (Row P)). AreRows code_of local_of waits_of machine.code machine.processes xs) (sym is) (kept_row code_of local_of waits_of machine.code machine.processes old.rows.items i w.0 now h.rows w.1 d.0)),
       )
-  enters_row entry i row now (Some effect) old new e at each world shown is machine h timely =
+  enters_row entry started i row now (Some effect) old new many e at each world shown is machine h timely =
       let s : Setting = record { code = machine.code; reductions = machine.reductions; started = length machine.processes } in
       let w = row_at code_of local_of waits_of machine.code machine.processes old.rows.items i row h.rows at in
-      let same : s ≡ setting old.world.code.now old.world.reductions (length old.rows.items) = alike machine old h in
+      let same : s ≡ setting old.world.code.now old.world.reductions started = alike machine old h ∙ ap (setting old.world.code.now old.world.reductions) (sym many) in
       let d = each s same w.0 w.2 in
       let stands : m.process_at machine (pid_of entry) ≡ Some w.0 = ap (m.process_at machine) e ∙ w.1 in (
         at_place machine i d.0,
         with_rows machine old new h world shown (slice_set machine.processes i d.0)
-        (subst (λ (xs : List (Row P)). AreRows code_of local_of waits_of machine.code (slice_set machine.processes i d.0) xs) (sym is) (set_row code_of local_of waits_of machine.code machine.processes old.rows.items i d.0 now h.rows d.1)),
+            (subst (λ (xs : List (Row P)). AreRows code_of local_of waits_of machine.code (slice_set machine.processes i d.0) xs) (sym is) (set_row code_of local_of waits_of machine.code machine.processes old.rows.items i d.0 now h.rows d.1)),
         d.2,
         d.3 machine (record { code = refl; reductions = refl; started = refl; stands = stands; timely = timely }) ∙ ap (λ (x : ℕ). Some (took local_of effect (m.with_process machine x d.0))) e,
       )
@@ -165,6 +164,19 @@ module _ {P : Type 0} (code_of : P → Module) (local_of : P → Local) (waits_o
     stands = subst (λ (o : Option Asking). StandsAt code_of local_of waits_of actor.process o) (sym ask) tt;
   }
 
+  pub begins : (process : P) (actor : Actor P) (rows : List (Row P)) (c : Machine P) → code_of process ≡ module_of c.world.code.now → IsRowOf code_of local_of waits_of (code_of process) (m.Running (local_of process) []) (r.Running actor)
+      → rows ≡ [] → c.rows.items ≡ rows ++ r.Running actor ∷ [] → c.shown.items ≡ [] → Follows code_of local_of waits_of (m.beginning (module_of c.world.code.now) c.world.reductions (local_of process)) c
+  begins process actor rows c same is no_rows more no_shown =
+      let own = module_of c.world.code.now in
+      let all : c.rows.items ≡ r.Running actor ∷ [] = more ∙ ap (λ (xs : List (Row P)). xs ++ r.Running actor ∷ []) no_rows in
+      let one : AreRows code_of local_of waits_of own (m.Running (local_of process) [] ∷ []) (r.Running actor ∷ []) = (subst (λ (x : Module). IsRowOf code_of local_of waits_of x (m.Running (local_of process) []) (r.Running actor)) same is, tt) in
+      record {
+        code = refl;
+        reductions = refl;
+        rows = subst (λ (xs : List (Row P)). AreRows code_of local_of waits_of own (m.Running (local_of process) [] ∷ []) xs) (sym all) one;
+        shown = no_shown;
+      }
+
   pub shows_text : (shown : Value) (line : List ℕ) (old new : Machine P) → line ≡ text (name_in (module_of old.world.code.now)) shown → new.world ≡ old.world → new.rows.items ≡ old.rows.items → new.shown.items ≡ old.shown.items ++ line ∷ []
       → (machine : m.Machine) → Follows code_of local_of waits_of machine old → Follows code_of local_of waits_of (m.with_shown machine shown) new
   shows_text shown line old new is world rows more machine h = record {
@@ -185,3 +197,11 @@ module _ {P : Type 0} (code_of : P → Module) (local_of : P → Local) (waits_o
 
   pub rest_more : (machine : m.Machine) (index : ℕ) (rests : Bool) (old new : Machine P) → RestBefore machine index old → RestsAt code_of local_of waits_of machine index rests new → rests ≡ true → RestBefore machine (index + 1) new
   rest_more machine index rests old new before at is = (at.0, λ k h. one_more machine index before.1 (sym at.1 ∙ is) k h)
+
+  pub rest_not : (machine : m.Machine) (index : ℕ) (rests : Bool) (old new : Machine P) → RestBefore machine index old → RestsAt code_of local_of waits_of machine index rests new → rests ≡ false → AllRest code_of local_of waits_of machine false new
+  rest_not machine index rests old new before at is = (at.0, sym (one_awake machine.code machine.processes index (sym at.1 ∙ is)))
+
+  pub rest_all : (machine : m.Machine) (index : ℕ) (first old : Machine P) → Follows code_of local_of waits_of machine first → length first.rows.items ≤ index → RestBefore machine index old → AllRest code_of local_of waits_of machine true old
+  rest_all machine index first old h many before =
+      let same : length machine.processes ≡ length first.rows.items = same_length code_of local_of waits_of machine.code machine.processes first.rows.items h.rows in
+      (before.0, sym (all_asleep machine.code machine.processes (λ k lt. before.1 k (omega arith))))

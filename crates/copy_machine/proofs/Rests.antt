@@ -1,5 +1,5 @@
 -- What comes of a process that is stopped, and which process is at rest.
-use Rattle.std.proofs.Common.{◌≡◌, ℕ, ◌<◌, Bool, true, false, List, [], ◌∷◌, length, map, Option, Some, None, refl, sym, ap, ◌∙◌, arith}
+use Rattle.std.proofs.Common.{◌≡◌, ℕ, ◌<◌, Bool, true, false, List, [], ◌∷◌, length, map, Some, refl, sym, ap, ◌∙◌, arith}
 use Rattle.term_value.specs.Value.{Value}
 use Rattle.term_value.specs.Seen.{Seen}
 use Rattle.term_value.specs.Tree.{Module}
@@ -11,7 +11,7 @@ use Rattle.code_tree.specs.PlainTerms.{value}
 use Rattle.process_acts.specs.declared.asking.Asking as asking
 use Rattle.process_acts.specs.declared.asking.Asking.TheVariants as a
 use Rattle.copy_machine.specs.Asks.{is_more}
-use Rattle.copy_machine.specs.Entering.{Setting, IsIn, Acts, Settles, Rests}
+use Rattle.copy_machine.specs.Entering.{Setting, Acts, Settles, Rests}
 use Rattle.copy_machine.specs.declared.act.Act.TheVariants.{Refused, Ends}
 use Rattle.copy_machine.specs.declared.actor.Actor.{Actor}
 use Rattle.copy_machine.specs.declared.ending.Ending.TheVariants as e

@@ -1,5 +1,5 @@
 -- The rows of processes, and what an entry does to one.
-use Rattle.std.proofs.Common.{◌≡◌, ℕ, zero, suc, ◌+◌, ◌<◌, ◌≤◌, Bool, true, false, List, [], ◌∷◌, ◌++◌, length, map, Option, Some, None, refl, sym, ap, ◌∙◌, subst, arith}
+use Rattle.std.proofs.Common.{◌≡◌, ℕ, zero, suc, ◌<◌, ◌≤◌, Bool, true, false, List, [], ◌∷◌, ◌++◌, length, map, Option, Some, None, refl, sym, ap, ◌∙◌, subst, arith}
 use Rattle.std.specs.Prelude.{slice_get, slice_index_or, slice_set}
 use Rattle.std.proofs.lemmas.List.{map-append}
 use Rattle.term_value.specs.Value.{Value}
@@ -13,7 +13,7 @@ use Rattle.code_tree.specs.PlainTerms.{value}
 use Rattle.process_acts.specs.Acts.{Runs}
 use Rattle.process_acts.specs.declared.asking.Asking.{Asking}
 use Rattle.copy_machine.specs.Following.{StandsAt, Plays, IsRowOf, IsSound, AreRows}
-use Rattle.copy_machine.specs.Entering.{Setting, IsIn, Acts, IsEffect, pid_of, is_gone}
+use Rattle.copy_machine.specs.Entering.{Setting, Acts, IsEffect, pid_of, is_gone}
 use Rattle.copy_machine.specs.declared.act.Act.{Act}
 use Rattle.copy_machine.specs.declared.act.Act.TheVariants.{Ends}
 use Rattle.copy_machine.specs.declared.act.Effect.TheVariants as f

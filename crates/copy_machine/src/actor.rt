@@ -190,7 +190,12 @@ impl<P: Process + Drop> Actor<P> {
     /// Does what an entry of its process says.
     ///
     /// That the process may be stopped now, and that its pid is the entry's, is for the caller to see.
-    pub fn act(&mut self, world: &World<'_>, entry: Entry, started: usize) -> Result<Act<P>, AllocError>
+    pub fn act(
+        &mut self,
+        world: &World<'_>,
+        entry: Entry,
+        started: usize,
+    ) -> Result<Act<P>, AllocError>
         requires { StandsAt P.code P.local P.waits self.old.process self.old.ask }
         ensures { IfOk result (λ act. (s : Setting) → s ≡ setting world.now.code.now world.now.reductions started → Acts P.code P.local P.waits s entry self.old act self.new) }
     {

@@ -1,4 +1,4 @@
-//! The copying machine over any process: its state, and what an entry does to its own process.
+//! The copying machine over any process: its state, and what each entry does to it.
 #![tactic(auto)]
 
 mod act;
@@ -11,3 +11,7 @@ mod machine;
 mod next_ask;
 mod row;
 mod world;
+
+pub use call::Call;
+pub use machine::Machine;
+pub use world::World;

@@ -29,7 +29,7 @@ pub struct Machine<'a, P> {
 impl<'a, P: Process + Drop> Machine<'a, P> {
     /// The machine with this process alone.
     pub fn start(world: World<'a>, first: P) -> Result<Machine<'a, P>, AllocError>
-        requires { P.code first ≡ module_of world.entry.code.now }
+        requires { P.code first ≡ module_of world.code.now }
         ensures { IfOk result (λ c. Follows P.code P.local P.waits (m.beginning (module_of world.entry.code.now) world.entry.reductions (P.local first)) c) }
     {
         let mut rows = Vec::new(world.alloc);
@@ -39,11 +39,7 @@ impl<'a, P: Process + Drop> Machine<'a, P> {
             ask: None,
         }))?;
         let shown = Vec::new(world.alloc);
-        Ok(Machine {
-            world,
-            rows,
-            shown,
-        })
+        Ok(Machine { world, rows, shown })
     }
 
     // Whether the process at this place waits or doesn't run.

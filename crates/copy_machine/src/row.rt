@@ -37,7 +37,12 @@ fn is_gone(entry: Entry) -> bool
 
 impl<P: Process + Drop> Row<P> {
     /// Does what an entry of its process says, and answers what it does beside that; None where the entry doesn't fit.
-    pub fn enter(&mut self, world: &World<'_>, entry: Entry, started: usize) -> Result<Option<Effect<P>>, AllocError>
+    pub fn enter(
+        &mut self,
+        world: &World<'_>,
+        entry: Entry,
+        started: usize,
+    ) -> Result<Option<Effect<P>>, AllocError>
         requires { IsSound P.code P.local P.waits self.old }
         ensures { IfOk result (λ effect. (s : Setting) → s ≡ setting world.now.code.now world.now.reductions started
             → (p : Played) → IsRowOf P.code P.local P.waits s.code p self.old → IsEffect P.code P.local P.waits s entry p effect self.new) }

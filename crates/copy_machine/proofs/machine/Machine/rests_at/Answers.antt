@@ -1,4 +1,4 @@
-use Rattle.std.proofs.Common.{refl, sym, ◌∙◌}
+use Rattle.std.proofs.Common.{refl}
 use Rattle.copy_machine.proofs.Rows.{found, missing}
 use Rattle.copy_machine.proofs.Machines.{sound_at, rests_at, rests_nowhere}
 use Rattle.copy_machine.proofs.machine.Machine.rests_at.Goals as goal

@@ -1,8 +1,4 @@
-use Rattle.std.proofs.Common.{◌≡◌, refl, ap, sym, ◌∙◌, subst}
-use Rattle.term_value.specs.Machine as m
-use Rattle.copy_machine.specs.Following.{Follows}
-use Rattle.copy_machine.specs.Entering.{IsOfCode, took}
-use Rattle.copy_machine.specs.declared.act.Effect.{Effect}
+use Rattle.std.proofs.Common.{refl}
 use Rattle.copy_machine.proofs.Machines.{starts_row, begins_row}
 use Rattle.copy_machine.proofs.machine.Machine.take.Goals as goal
 

@@ -1,6 +1,4 @@
 use Rattle.std.proofs.Common.{◌≡◌}
-use Rattle.term_value.specs.Machine.{Process as Played}
-use Rattle.copy_machine.specs.Following.{IsRowOf}
 use Rattle.copy_machine.specs.Entering.{Setting, setting}
 use Rattle.copy_machine.proofs.Rows.{leaves_row, over_row}
 use Rattle.copy_machine.proofs.row.Row.enter.Goals as goal
