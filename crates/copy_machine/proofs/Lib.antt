@@ -3,5 +3,6 @@ pub mod Arities
 pub mod Machines
 pub mod Paths
 pub mod Places
+pub mod Replays
 pub mod Rests
 pub mod Rows

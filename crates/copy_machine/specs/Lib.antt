@@ -2,4 +2,5 @@ pub mod Asks
 pub mod Entering
 pub mod Following
 pub mod Reaching
+pub mod Replaying
 pub mod Starting

@@ -7,11 +7,16 @@ mod asks;
 mod call;
 mod ending;
 mod entries;
+mod fault;
 mod machine;
 mod next_ask;
+mod outcome;
+mod replaying;
 mod row;
 mod world;
 
 pub use call::Call;
+pub use fault::CopyFault;
 pub use machine::Machine;
+pub use replaying::replay;
 pub use world::World;

@@ -1,5 +1,8 @@
 ghost use Rattle.std.specs.Prelude.{◌≡◌, ◌+◌, ◌<◌, ℕ, Option, Some, slice_get, IfOk, length};
+ghost use Rattle.std.specs.List.{list_all};
 ghost use Rattle.term_value.specs.Machine as m;
+ghost use Rattle.term_value.specs.Outcomes.{IsOutcome};
+ghost use Rattle.copy_machine.specs.Replaying.{has_left};
 ghost use Rattle.code_tree.specs.PlainTerms.{value};
 ghost use Rattle.code_tree.specs.Reading.{module_of};
 ghost use Rattle.copy_machine.specs.Following.{Follows, IsFollower};
@@ -8,13 +11,14 @@ ghost use Rattle.copy_machine.specs.Entering.{AllRest, Applies, Enters, MayEnter
 use crate::act::Effect;
 use crate::actor::Actor;
 use crate::entries::{is_stop, pid_of};
+use crate::outcome::{all_left, ends_of};
 use crate::row::Row;
 use crate::world::World;
 use code_tree::PlainTerm;
-use erl_syntax::Text;
+use erl_syntax::{Listed, Text};
 use process_acts::Process;
 use std::alloc::AllocError;
-use term_value::Entry;
+use term_value::{Entry, Outcome};
 
 /// The copying machine's state.
 #[derive(Drop)]
@@ -147,5 +151,24 @@ impl<'a, P: Process + Drop> Machine<'a, P> {
                 Ok(true)
             }
         }
+    }
+
+    /// Whether all processes are gone.
+    pub fn all_left(&self) -> bool
+        ensures { result ≡ list_all has_left self.now.rows.items }
+    {
+        all_left(self.rows.as_slice())
+    }
+
+    /// What a run with this order came to.
+    pub fn outcome(self, entries: Vec<Entry>) -> Result<Outcome, AllocError>
+        ensures { IfOk result (λ outcome. (machine : m.Machine) → Follows P.code P.local P.waits machine self.entry → IsOutcome machine entries.items outcome) }
+    {
+        let ends = ends_of(self.world.alloc, self.rows)?;
+        Ok(Outcome {
+            entries: Listed::of(entries),
+            shown: Listed::of(self.shown),
+            ends: Listed::of(ends),
+        })
     }
 }
