@@ -1,11 +1,9 @@
 -- What an order comes to, entry by entry.
-use Rattle.std.proofs.Common.{◌≡◌, ℕ, zero, suc, ◌+◌, ◌<◌, ◌≤◌, ◌&&◌, Bool, true, false, List, [], ◌∷◌, ◌++◌, length, map, take, drop, Option, Some, None, refl, sym, ap, ◌∙◌, subst, arith}
+use Rattle.std.proofs.Common.{◌≡◌, ℕ, suc, ◌+◌, ◌<◌, ◌≤◌, ◌&&◌, Bool, true, false, List, [], ◌∷◌, ◌++◌, length, take, drop, Option, Some, None, refl, sym, ap, ◌∙◌, subst, arith}
 use Rattle.std.specs.Prelude.{slice_index_or}
 use Rattle.std.specs.Option.{option_and_then}
 use Rattle.std.specs.List.{list_all, AllByRecursion}
 use Rattle.std.proofs.lemmas.List.{take_more, take_all, length-take-le, take-append-drop, append_assoc, append-nil}
-use Rattle.std.proofs.Math.Seq.{drop-cons}
-use Rattle.term_value.specs.Texts.{text}
 use Rattle.term_value.specs.Tree.{Module}
 use Rattle.term_value.specs.Step.{name_in}
 use Rattle.term_value.specs.Local.{Local}
@@ -14,7 +12,6 @@ use Rattle.term_value.specs.Reports.{ends_from, process_end, end_with}
 use Rattle.term_value.specs.Outcomes.{IsOutcome}
 use Rattle.term_value.specs.declared.entry.Entry.{Entry}
 use Rattle.term_value.specs.declared.outcome.Outcome.{Outcome}
-use Rattle.copy_machine.specs.declared.ending.Ending.{Ending}
 use Rattle.copy_machine.specs.declared.machine.Machine.{Machine}
 use Rattle.copy_machine.specs.declared.row.Row.{Row}
 use Rattle.copy_machine.specs.declared.row.Row.TheVariants as r

@@ -1,5 +1,5 @@
 -- What an order comes to (this project's own).
-use Rattle.std.specs.Prelude.{◌≡◌, ℕ, ◌+◌, Bool, true, false, List, [], ◌∷◌, ◌++◌, length, Option, Some, None, Ok, Err}
+use Rattle.std.specs.Prelude.{◌≡◌, ℕ, ◌+◌, Bool, false, List, [], ◌∷◌, ◌++◌, length, Option, Some, None, Ok, Err}
 use Rattle.std.specs.declared.result.Result.{Result}
 use Rattle.term_value.specs.Tree.{Module}
 use Rattle.term_value.specs.Local.{Local}

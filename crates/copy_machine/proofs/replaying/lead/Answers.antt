@@ -1,4 +1,4 @@
-use Rattle.std.proofs.Common.{ap, arith, ◌+◌, ◌≡◌, ℕ}
+use Rattle.std.proofs.Common.{ap, arith, ◌+◌, ℕ}
 use Rattle.std.proofs.lemmas.List.{get_or_default}
 use Rattle.copy_machine.proofs.Replays.{stopped, led_more, follows_on}
 use Rattle.copy_machine.proofs.replaying.lead.Goals as goal
