@@ -6,3 +6,4 @@ pub mod Places
 pub mod Replays
 pub mod Rests
 pub mod Rows
+pub mod Runners

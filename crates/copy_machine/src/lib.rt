@@ -11,6 +11,7 @@ mod fault;
 mod machine;
 mod next_ask;
 mod outcome;
+mod progress;
 mod replaying;
 mod row;
 mod world;

@@ -1,0 +1,59 @@
+ghost use Rattle.std.specs.Prelude.{◌≡◌, true, IfOk};
+ghost use Rattle.copy_machine.specs.Running.{GoesOn, IsOwnEntry, IsUnderWay};
+
+use crate::machine::Machine;
+use process_acts::Process;
+use std::alloc::AllocError;
+use term_value::Entry;
+
+/// A run on its way.
+#[derive(Drop)]
+pub struct Progress<'a, P> {
+    pub machine: Machine<'a, P>,
+    /// The entries so far.
+    pub entries: Vec<Entry>,
+}
+
+/// The largest pid.
+const PID_BOUND: u32 = 1_024;
+
+// Whether the numbers of an entry are in the ranges of its line, and it counts nothing that is shared.
+fn is_own_entry(entry: Entry) -> bool
+    ensures { result ≡ true → IsOwnEntry entry }
+{
+    match entry {
+        Entry::Sent { from, to } => 1 <= from && from <= PID_BOUND && 1 <= to && to <= PID_BOUND,
+        Entry::Saw { pid, count } => 1 <= pid && pid <= PID_BOUND && 1 <= count,
+        Entry::Shown { pid } => 1 <= pid && pid <= PID_BOUND,
+        Entry::Started { pid, child } => 1 <= pid
+            && pid <= PID_BOUND
+            && 1 <= child
+            && child <= PID_BOUND,
+        Entry::Full { pid } => 1 <= pid && pid <= PID_BOUND,
+        Entry::Ended { pid } => 1 <= pid && pid <= PID_BOUND,
+        Entry::Stopped { pid } => 1 <= pid && pid <= PID_BOUND,
+        Entry::Gone {
+            pid,
+            births,
+            drops,
+            moved,
+        } => 1 <= pid && pid <= PID_BOUND && births == 0 && drops == 0 && moved == 0,
+    }
+}
+
+impl<P: Process + Drop> Progress<'_, P> {
+    /// Enters the next entry of the run. The error says that memory ran out, or that the entry doesn't fit.
+    pub fn enter(&mut self, entry: Entry) -> Result<(), AllocError>
+        requires { IsUnderWay P.code P.local P.waits self.old }
+        ensures { IfOk result (λ _. GoesOn P.code P.local P.waits self.old self.new) }
+    {
+        if !is_own_entry(entry) {
+            return Err(AllocError);
+        }
+        if !self.machine.apply(entry)? {
+            return Err(AllocError);
+        }
+        self.entries.push(entry)?;
+        Ok(())
+    }
+}
