@@ -1,17 +1,21 @@
 -- How a run goes on by an entry.
 use Rattle.std.proofs.Common.{◌≡◌, zero, suc, true, Bool, List, [], ◌∷◌, ◌++◌, sym, subst, arith}
 use Rattle.std.specs.Prelude.{All}
+use Rattle.std.specs.List.{list_all}
 use Rattle.std.proofs.lemmas.List.Elements.{All-append}
 use Rattle.term_value.specs.Tree.{Module}
 use Rattle.term_value.specs.Local.{Local}
 use Rattle.term_value.specs.Machine as m
+use Rattle.term_value.specs.Outcomes.{IsOutcome}
 use Rattle.term_value.specs.declared.entry.Entry.{Entry}
+use Rattle.term_value.specs.declared.outcome.Outcome.{Outcome}
 use Rattle.copy_machine.specs.declared.machine.Machine.{Machine}
 use Rattle.copy_machine.specs.declared.progress.Progress.{Progress}
 use Rattle.copy_machine.specs.Following.{Follows, IsFollower}
 use Rattle.copy_machine.specs.Entering.{Applies}
-use Rattle.copy_machine.specs.Running.{GotTo, GoesOn, IsOwnEntry, IsUnderWay}
-use Rattle.copy_machine.proofs.Replays.{leads_more}
+use Rattle.copy_machine.specs.Replaying.{has_left}
+use Rattle.copy_machine.specs.Running.{GotTo, GoesOn, IsOwnEntry, IsOwnRun, IsUnderWay}
+use Rattle.copy_machine.proofs.Replays.{leads_more, all_gone}
 
 alone : (entry : Entry) → IsOwnEntry entry → All IsOwnEntry (entry ∷ [])
 alone entry own zero d lt = own
@@ -31,4 +35,18 @@ module _ {P : Type 0} (code_of : P → Module) (local_of : P → Local) (waits_o
         leads = subst (λ (es : List Entry). m.Leads start es a.0) (sym more) (leads_more start h.state a.0 old.entries.items entry h.leads a.1);
         follows = a.2;
         own = subst (λ (es : List Entry). All IsOwnEntry es) (sym more) (All-append IsOwnEntry old.entries.items (entry ∷ []) h.own (alone entry own));
+      }
+
+  pub finished : (outcome : Outcome) (c : Progress P) → list_all (has_left {P = P}) c.machine.rows.items ≡ true
+      → ((machine : m.Machine) → Follows code_of local_of waits_of machine c.machine → IsOutcome machine c.entries.items outcome) → (start : m.Machine) → GotTo code_of local_of waits_of start c → IsOwnRun start outcome
+  finished outcome c all came start h =
+      let o = came h.state h.follows in
+      record {
+        runs = record {
+          state = h.state;
+          leads = subst (λ (es : List Entry). m.Leads start es h.state) (sym o.order) h.leads;
+          complete = all_gone code_of local_of waits_of h.state.code h.state.processes c.machine.rows.items h.follows.rows all;
+          came = subst (λ (es : List Entry). IsOutcome h.state es outcome) (sym o.order) o;
+        };
+        own = subst (λ (es : List Entry). All IsOwnEntry es) (sym o.order) h.own;
       }

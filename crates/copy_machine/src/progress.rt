@@ -1,10 +1,11 @@
 ghost use Rattle.std.specs.Prelude.{◌≡◌, true, IfOk};
-ghost use Rattle.copy_machine.specs.Running.{GoesOn, IsOwnEntry, IsUnderWay};
+ghost use Rattle.term_value.specs.Machine as m;
+ghost use Rattle.copy_machine.specs.Running.{GoesOn, GotTo, IsOwnEntry, IsOwnRun, IsUnderWay};
 
 use crate::machine::Machine;
 use process_acts::Process;
 use std::alloc::AllocError;
-use term_value::Entry;
+use term_value::{Entry, Outcome};
 
 /// A run on its way.
 #[derive(Drop)]
@@ -55,5 +56,16 @@ impl<P: Process + Drop> Progress<'_, P> {
         }
         self.entries.push(entry)?;
         Ok(())
+    }
+
+    /// What the run came to. The error says that memory ran out, or that some process isn't gone.
+    pub fn finish(self) -> Result<Outcome, AllocError>
+        ensures { IfOk result (λ outcome. (start : m.Machine) → GotTo P.code P.local P.waits start self.entry → IsOwnRun start outcome) }
+    {
+        if !self.machine.all_left() {
+            return Err(AllocError);
+        }
+        let outcome = self.machine.outcome(self.entries)?;
+        Ok(outcome)
     }
 }
