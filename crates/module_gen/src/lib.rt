@@ -1,10 +1,13 @@
 //! The generated module: large valid input for a run, made from two numbers.
 #![tactic(auto)]
 
+mod laws;
+
 ghost use Rattle.std.specs.Prelude.{◌≡◌, IfOk};
 ghost use Rattle.module_gen.specs.Generated.{generated};
 
 use itoa::Buffer;
+pub use laws::generated_is_short;
 use std::alloc::{AllocError, Global};
 
 const BEFORE_SEED: &[u8] = b"-module(load).
