@@ -1,5 +1,5 @@
 -- How a run goes on by an entry.
-use Rattle.std.proofs.Common.{◌≡◌, zero, suc, true, Bool, List, [], ◌∷◌, ◌++◌, sym, subst, arith}
+use Rattle.std.proofs.Common.{◌≡◌, zero, suc, true, Bool, List, [], ◌∷◌, ◌++◌, refl, sym, subst, arith}
 use Rattle.std.specs.Prelude.{All}
 use Rattle.std.specs.List.{list_all}
 use Rattle.std.proofs.lemmas.List.Elements.{All-append}
@@ -50,3 +50,11 @@ module _ {P : Type 0} (code_of : P → Module) (local_of : P → Local) (waits_o
         };
         own = subst (λ (es : List Entry). All IsOwnEntry es) (sym o.order) h.own;
       }
+
+  pub begun : (c : Progress P) → c.entries.items ≡ [] → (start : m.Machine) → Follows code_of local_of waits_of start c.machine → GotTo code_of local_of waits_of start c
+  begun c none start h = record {
+    state = start;
+    leads = subst (λ (es : List Entry). m.Leads start es start) (sym none) refl;
+    follows = h;
+    own = subst (λ (es : List Entry). All IsOwnEntry es) (sym none) (λ k d lt. absurd (omega arith));
+  }

@@ -1,10 +1,11 @@
 ghost use Rattle.std.specs.Prelude.{◌≡◌, true, IfOk};
 ghost use Rattle.term_value.specs.Machine as m;
+ghost use Rattle.copy_machine.specs.Following.{Follows};
 ghost use Rattle.copy_machine.specs.Running.{GoesOn, GotTo, IsOwnEntry, IsOwnRun, IsUnderWay};
 
 use crate::machine::Machine;
 use process_acts::Process;
-use std::alloc::AllocError;
+use std::alloc::{AllocError, Global};
 use term_value::{Entry, Outcome};
 
 /// A run on its way.
@@ -42,7 +43,17 @@ fn is_own_entry(entry: Entry) -> bool
     }
 }
 
-impl<P: Process + Drop> Progress<'_, P> {
+impl<'a, P: Process + Drop> Progress<'a, P> {
+    /// The run at its start.
+    pub fn begin(alloc: Global, machine: Machine<'a, P>) -> Progress<'a, P>
+        ensures { (start : m.Machine) → Follows P.code P.local P.waits start machine.entry → GotTo P.code P.local P.waits start result }
+    {
+        Progress {
+            machine,
+            entries: Vec::new(alloc),
+        }
+    }
+
     /// Enters the next entry of the run. The error says that memory ran out, or that the entry doesn't fit.
     pub fn enter(&mut self, entry: Entry) -> Result<(), AllocError>
         requires { IsUnderWay P.code P.local P.waits self.old }
