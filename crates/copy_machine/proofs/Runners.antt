@@ -9,7 +9,6 @@ use Rattle.term_value.specs.Machine as m
 use Rattle.term_value.specs.Outcomes.{IsOutcome}
 use Rattle.term_value.specs.declared.entry.Entry.{Entry}
 use Rattle.term_value.specs.declared.outcome.Outcome.{Outcome}
-use Rattle.copy_machine.specs.declared.machine.Machine.{Machine}
 use Rattle.copy_machine.specs.declared.progress.Progress.{Progress}
 use Rattle.copy_machine.specs.Following.{Follows, IsFollower}
 use Rattle.copy_machine.specs.Entering.{Applies}

@@ -1,5 +1,5 @@
 -- What a runner makes: a legal order of its own (this project's own).
-use Rattle.std.specs.Prelude.{◌≡◌, List, All}
+use Rattle.std.specs.Prelude.{◌≡◌, All}
 use Rattle.term_value.specs.Tree.{Module}
 use Rattle.term_value.specs.Local.{Local}
 use Rattle.term_value.specs.Machine as m
