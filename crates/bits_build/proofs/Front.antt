@@ -29,10 +29,7 @@ module _ {R : Type 0} (has : R → Type 0) (p : Part R) (ps all : List (Part R))
   first = All-head (HasPart has) p ps (All-same (HasPart has) (p ∷ ps) all (sym here) have)
 
   pub has_front : (of : R) → open_bits p ≡ Some of → has of
-  has_front of e = has_open has of p.typed.kind p.typed.size (seen p.value) e first.0
-
-  pub has_unit : 0 < p.typed.unit
-  has_unit = first.1
+  has_front of e = has_open has of p.typed.kind p.typed.size (seen p.value) e first
 
   pub has_rest : All (HasPart has) ps
   has_rest = All-rest (HasPart has) p ps all here have

@@ -26,9 +26,9 @@ abbrev pub HasBits : {R : Type 0} → (R → Type 0) → Seen R → Type 0
 HasBits has (SBits reference) = has reference
 HasBits has _ = Unit {0}
 
--- a part of a type's unit, whose value's reference is there
+-- a part whose value's reference is there
 abbrev pub HasPart : {R : Type 0} → (R → Type 0) → Part R → Type 0
-HasPart has p = HasBits has (seen p.value) × (0 < p.typed.unit)
+HasPart has p = HasBits has (seen p.value)
 
 -- the part's value and its size, where references show these bits
 abbrev pub part_filled : {R : Type 0} → (R → List Bool) → Part R → Filled

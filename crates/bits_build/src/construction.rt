@@ -27,7 +27,6 @@ use term_value::Term;
 ///
 /// `BadArg` and `Limit` exactly where the expression raises `badarg`, or is the limit; `NoMemory` for want of memory alone. Each
 /// reference shows then what it showed, and no bit was moved.
-#[tactic(auto, using(crate::proofs::Front::has_unit))]
 pub fn build<R: Share + Drop, S: Store<R>>(
     alloc: Global,
     store: &mut S,
@@ -103,7 +102,6 @@ fn build_on<R: Share + Drop, S: Store<R>>(
     steps: &mut Steps,
 ) -> Result<R, BuildFault>
     requires valid { S.has store.old front.of.now }
-    requires unit { 0 < front.unit }
     requires rest { All (HasPart (S.has store.old)) front.rest.now }
     ensures keeps { Keeps S.shown S.has store.old store.new }
     ensures valid { IfOk result (λ made. S.has store.new made) }
@@ -114,7 +112,7 @@ fn build_on<R: Share + Drop, S: Store<R>>(
     ensures unmoved { OnErr result (steps.new ≡ steps.old) }
 {
     let len = store.look(front.of).len();
-    if len % u32::from(front.unit) != 0 {
+    if !len.is_multiple_of(u32::from(front.unit)) {
         return Err(BuildFault::BadArg);
     }
     if front.rest.is_empty() {

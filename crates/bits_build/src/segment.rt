@@ -7,7 +7,7 @@ ghost use Rattle.bits_value.specs.declared.Endian as E;
 ghost use Rattle.bit_store.specs.declared.piece.Piece.TheVariants.{Number};
 ghost use Rattle.term_value.specs.Extent as e;
 ghost use Rattle.term_value.specs.Encode.{Bits, encoded_integer, encoded_part, encoded_character};
-ghost use Rattle.bits_build.specs.Extents.{IsExtent, HasUnit};
+ghost use Rattle.bits_build.specs.Extents.{IsExtent};
 ghost use Rattle.bits_build.specs.Parts.{HasPart, IsSegment, IsCause, bits_encoded, part_encoded};
 
 use crate::extent::{Extent, extent_of};
@@ -110,15 +110,14 @@ fn bitstring<R: Share + Drop, S: Store<R>>(
     of: &R,
     extent: Extent,
 ) -> Result<Segment<R>, BuildFault>
-    requires valid { S.has store.now of.now }
-    requires unit { HasUnit extent }
+    requires { S.has store.now of.now }
     ensures { (wanted : e.Extent) → IsExtent wanted extent → MatchResult result (λ made. IsSegment (S.shown store.now) (S.has store.now) (encoded_part wanted (S.shown store.now of.now)) made)
         (λ fault. IsCause (encoded_part wanted (S.shown store.now of.now)) fault) }
 {
     let len = store.look(of).len();
     let bits = match extent {
         Extent::Bits(bits) if bits <= len => bits,
-        Extent::InUnits(unit) if len % u32::from(unit) == 0 => len,
+        Extent::InUnits(unit) if len.is_multiple_of(u32::from(unit)) => len,
         Extent::TooLong => return Err(BuildFault::Limit),
         _ => return Err(BuildFault::BadArg),
     };

@@ -20,7 +20,7 @@ returns-clause-gives g c =
     let many : c.len-len.result ≡ length (g.S.Store.shown c.args.store.now c.args.front.of.now) = c.len-len.ensures ∙ ap length c.look.ensures in
     let same : c.in_ok-pieces.pieces.items ≡ c.deref.result.now = cc in
     front_built (g.S.Store.shown c.args.store.now) c.args.front.of.now c.args.front.unit c.args.front.rest.now
-    (subst (λ n. n % c.args.front.unit ≡ 0) many (subst (λ u. c.len-len.result % u ≡ 0) c.from.ensures (omega arith)))
+    (subst (λ n. n % c.args.front.unit ≡ 0) many (subst (λ u. c.len-len.result % u ≡ 0) c.from.ensures (c.is_multiple_of.ensures.0 (search rules))))
     (omega (arith, c.in_ok-pieces.ensures.made.short, many))
     ∙ c.in_ok-pieces.ensures.made.are (g.S.Store.shown c.args.store.now c.args.front.of.now) (sym many)
     ∙ ap (λ pieces. Gives (VBits (g.S.Store.shown c.args.store.now c.args.front.of.now ++ pieces_bits (g.S.Store.shown c.args.store.now) pieces))) same
