@@ -1,2 +1,4 @@
 pub mod Binds
 pub mod Shorter
+pub mod Rows
+pub mod Verdicts

@@ -2,5 +2,9 @@
 #![tactic(auto)]
 
 mod bindings;
+mod guards;
+mod primitives;
 
 pub use bindings::Bindings;
+pub use guards::{Verdict, guard_holds, result_of};
+pub use primitives::primitive;

@@ -1,0 +1,24 @@
+use Rattle.std.proofs.Common.{ap, arith}
+use Rattle.bit_store.specs.Stores.{itself}
+use Rattle.term_value.specs.Operators.{operate}
+use Rattle.term_value.specs.Primitives.{bounded_result, prim}
+use Rattle.term_value.specs.Seen.{meanings}
+use Rattle.term_value.specs.Terms.{value_of, row}
+use Rattle.term_value.specs.Tree.{Operate}
+use Rattle.expr_eval.specs.Answers.{setting}
+use Rattle.expr_eval.proofs.Evaluations.{evaluated}
+use Rattle.expr_eval.proofs.GuardCalls.{computed_evaluated}
+use Rattle.code_match.proofs.Operands.{two_are, not_two}
+use Rattle.code_match.proofs.primitives.binary.Goals as goal
+use Rattle.code_match.proofs.primitives.binary.Goals.{in_default-via-then-values-lt2, in_default-via-else-values-lt2+else-values-lt3}
+
+pub returns-in-len2-clause-is : goal.returns-in-len2-clause-is
+returns-in-len2-clause-is c =
+    let s = setting c.args.caller.now.names.now c.args.caller.now.pid in
+    let due = bounded_result (operate s.names c.args.op (value_of itself c.left-item.result) (value_of itself c.right-item.result)) in
+    evaluated itself c.binary_op.result due (prim s (Operate c.args.op) (meanings itself (row c.args.values.now)))
+    (ap bounded_result (two_are s c.args.op c.args.values.now c.left-item.result c.right-item.result (omega arith) c.left-item.is c.right-item.is))
+    (computed_evaluated itself c.binary_op.result due c.binary_op.ensures.is)
+
+pub returns-in_default-clause-is : goal.returns-in_default-clause-is
+returns-in_default-clause-is c = ap bounded_result (not_two (setting c.args.caller.now.names.now c.args.caller.now.pid) c.args.op c.args.values.now (elim c.in_default.branch [ in_default-via-then-values-lt2 w ↦ grind arith | in_default-via-else-values-lt2+else-values-lt3 w ↦ grind arith ]))
