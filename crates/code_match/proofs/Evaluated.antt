@@ -5,7 +5,7 @@ use Rattle.bit_store.specs.Stores.{itself}
 use Rattle.term_value.specs.Value.{none}
 use Rattle.term_value.specs.Seen.{meanings}
 use Rattle.term_value.specs.Terms.{row, value_of}
-use Rattle.term_value.specs.Result.{Stop, Raise, Limit, Result, Gives, Stops}
+use Rattle.term_value.specs.Result.{Stop, Raise, Limit, Gives, Stops}
 use Rattle.term_value.specs.Setting.{Setting}
 use Rattle.term_value.specs.Tree.{Bound}
 use Rattle.term_value.specs.PutIn.{put_in, puts_in, in_guard}

@@ -5,7 +5,6 @@ use Rattle.bit_store.specs.Stores.{itself}
 use Rattle.bits_build.specs.declared.part.Part.{Part}
 use Rattle.bits_build.specs.Parts.{part_filled, parts_filled}
 use Rattle.erl_syntax.specs.declared.typing.Typed.{Typed}
-use Rattle.term_value.specs.Value.{none}
 use Rattle.term_value.specs.Seen.{meanings}
 use Rattle.term_value.specs.Terms.{row, value_of}
 use Rattle.term_value.specs.Encode.{Filled, filled_by, filled_with}

@@ -1,10 +1,10 @@
 -- An operator's operands, by their number.
-use Rattle.std.proofs.Common.{◌≡◌, ◌≢◌, List, [], ◌∷◌, Bool, length, get_or, refl, ap, sym, ◌∙◌, arith}
+use Rattle.std.proofs.Common.{◌≡◌, ◌≢◌, List, [], ◌∷◌, Bool, length, get_or, refl, ap, ◌∙◌, arith}
 use Rattle.bit_store.specs.Stores.{itself}
 use Rattle.erl_syntax.specs.declared.expr.Op.{Op}
 use Rattle.erl_syntax.specs.declared.expr.Prefix.{Prefix}
 use Rattle.term_value.specs.BuiltIns.{badarg}
-use Rattle.term_value.specs.Operators.{operate, prefixed}
+use Rattle.term_value.specs.Operators.{operate}
 use Rattle.term_value.specs.Primitives.{exact}
 use Rattle.term_value.specs.Seen.{meanings}
 use Rattle.term_value.specs.Setting.{Setting}

@@ -1,12 +1,12 @@
 -- Items put in front of a list, one by one.
-use Rattle.std.proofs.Common.{◌≡◌, Bool, true, false, List, [], ◌∷◌, ◌++◌, refl, ap, sym, ◌∙◌, arith}
+use Rattle.std.proofs.Common.{◌≡◌, Bool, true, false, List, [], ◌∷◌, ◌++◌, refl, ap, sym, arith}
 use Rattle.bit_store.specs.Stores.{itself}
 use Rattle.erl_syntax.specs.Atoms.{a_badarg}
-use Rattle.term_value.specs.Value.{Value, VList, Values, none, more, count, weight, weights, depth, depths}
+use Rattle.term_value.specs.Value.{Value, VList, Values, more}
 use Rattle.term_value.specs.Bounds.{within, is_within, value_or_limit}
-use Rattle.term_value.specs.Result.{Result, Gives, Stops, Raise, Limit, raise}
-use Rattle.term_value.specs.Primitives.{bounded_result, before_list, list_or_badarg, listed_on}
-use Rattle.term_value.specs.Seen.{Row, then, end, meanings, IsKnown, AreKnown}
+use Rattle.term_value.specs.Result.{Gives, Stops, Raise, Limit, raise}
+use Rattle.term_value.specs.Primitives.{before_list, listed_on}
+use Rattle.term_value.specs.Seen.{Row, then, meanings, IsKnown, AreKnown}
 use Rattle.term_value.specs.Terms.{seen, row, value_of}
 use Rattle.term_value.specs.declared.term.Term.{Term}
 use Rattle.term_value.specs.declared.term.Term.TheVariants as t

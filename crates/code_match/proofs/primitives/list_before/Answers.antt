@@ -1,5 +1,4 @@
 use Rattle.std.proofs.Common.{◌≡◌, ◌++◌, ◌∷◌, [], List, Bool, ap, sym, subst, ◌∙◌, rules}
-use Rattle.std.proofs.lemmas.List.{nil_from_length}
 use Rattle.std.specs.declared.result.Result.TheVariants.{Err}
 use Rattle.bit_store.specs.Stores.{itself}
 use Rattle.term_value.specs.Bounds.{within}

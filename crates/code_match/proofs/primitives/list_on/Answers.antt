@@ -1,4 +1,4 @@
-use Rattle.std.proofs.Common.{◌≡◌, ◌++◌, ◌∷◌, [], List, Bool, ap, sym, subst, ◌∙◌, rules}
+use Rattle.std.proofs.Common.{◌≡◌, ◌++◌, ◌∷◌, [], List, Bool, ap, sym, subst, rules}
 use Rattle.bit_store.specs.Stores.{itself}
 use Rattle.term_value.specs.Primitives.{bounded_result, listed_on}
 use Rattle.term_value.specs.Seen.{meanings, AreKnown}
