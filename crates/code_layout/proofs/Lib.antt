@@ -1,0 +1,9 @@
+pub mod Forms
+pub mod Found
+pub mod Layers
+pub mod Letters
+pub mod Loops
+pub mod Pieces
+pub mod Same
+pub mod Shaped
+pub mod Zipped

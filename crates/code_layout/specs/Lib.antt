@@ -1,0 +1,4 @@
+pub mod Layout
+pub mod Lookups
+pub mod Readings
+pub mod Shapes

@@ -1,0 +1,2 @@
+-- The shapes of bit patterns.
+use Rattle.std.specs.Prelude.{ℕ, List}
