@@ -1,4 +1,3 @@
 pub mod Layout
 pub mod Lookups
 pub mod Readings
-pub mod Shapes

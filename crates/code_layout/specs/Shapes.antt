@@ -1,2 +1,0 @@
--- The shapes of bit patterns.
-use Rattle.std.specs.Prelude.{ℕ, List}
