@@ -4,9 +4,15 @@
 #[cfg(test)]
 mod bit_tests;
 #[cfg(test)]
+mod built_in_tests;
+#[cfg(test)]
 mod character_tests;
 #[cfg(test)]
 mod construction_tests;
+#[cfg(test)]
+mod given;
+#[cfg(test)]
+mod operator_tests;
 #[cfg(test)]
 mod order_tests;
 #[cfg(test)]
