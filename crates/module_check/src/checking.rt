@@ -74,7 +74,8 @@ impl Checked {
     /// The variables of each of the module's functions but `_`, in the order of the text: where each stands, its number in its
     /// function, which is how many get their values further left, and whether it gets its value here.
     pub fn vars(&self) -> &[Listed<VarUse>]
-        ensures { ∥ AreNumbered self.now.tree.functions result.now ∥₁ }
+        ensures same { result.now ≡ self.now.vars.items }
+        ensures numbered { ∥ AreNumbered self.now.tree.functions result.now ∥₁ }
     {
         &self.vars
     }

@@ -1,7 +1,8 @@
-ghost use Rattle.std.specs.Prelude.{◌≡◌, ◌++◌, map, IfOk};
+ghost use Rattle.std.specs.Prelude.{◌≡◌, ◌+◌, ◌≤◌, ◌++◌, map, IfOk};
 ghost use Rattle.term_value.specs.Local.{Local};
 ghost use Rattle.term_value.specs.Tree.{Module};
 ghost use Rattle.code_tree.specs.PlainTerms.{value};
+ghost use Rattle.process_acts.specs.declared.asking.Turn.TheVariants.{Yields};
 ghost use Rattle.process_acts.specs.Acts.{Runs, IsTurn, AwaitsAnswer, AwaitsMessages, Answered, Saw, Filled, IsFirst};
 
 use crate::asking::Turn;
@@ -34,11 +35,12 @@ pub trait Process: Sized {
     /// Whether it stands at its ask.
     ghost waits: { Self → Type 0 };
 
-    /// Runs to the next ask, or until `most` reductions are used.
+    /// Runs to the next ask, or until `most` reductions are used. It yields only where that many were.
     fn turn(&mut self, most: u32) -> Result<Turn, AllocError>
         ensures code { code self.new ≡ code self.old }
         ensures runs { IfOk result (λ turn. Runs (code self.old) (local self.old) (local self.new)) }
-        ensures asks { IfOk result (λ turn. IsTurn (code self.new) (local self.new) (waits self.new) turn) };
+        ensures asks { IfOk result (λ turn. IsTurn (code self.new) (local self.new) (waits self.new) turn) }
+        ensures yields { IfOk result (λ turn. turn ≡ Yields → (local self.new).left + most ≤ (local self.old).left) };
 
     /// Goes on with the answer to a message that was sent, a value that was displayed, or a process that was started.
     fn answer(&mut self, answer: PlainTerm)

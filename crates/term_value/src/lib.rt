@@ -30,7 +30,7 @@ pub use laws::{
     names_by_characters, one_order, order_is_total, outcome_reports, parcel_starts,
 };
 pub use look::Look;
-pub use made::{cons, is_bounded, list_of, tuple_of};
+pub use made::{cons, is_bounded, list_of, tagged, tuple_of};
 pub use measure::{depth, weight};
 pub use outcome::Outcome;
 pub use showing::show;

@@ -1,10 +1,10 @@
-//! Tuples and lists within the bounds: the only way to make one that isn't empty.
+//! Tuples and lists within the bounds, and reasons: the only ways to make one that isn't empty.
 
 ghost use Rattle.std.specs.Prelude.{◌≡◌, ◌^◌, ◌&&◌, nat_le, List, Bool, IfOk};
 ghost use Rattle.term_value.specs.Value.{VTuple, VList, more};
 ghost use Rattle.term_value.specs.Bounds.{is_within, within};
 ghost use Rattle.term_value.specs.Made.{given, items_within, IsMadeOf};
-ghost use Rattle.term_value.specs.Seen.{meanings, SList, STuple, then};
+ghost use Rattle.term_value.specs.Seen.{meanings, SAtom, SList, STuple, then, end};
 ghost use Rattle.term_value.specs.Terms.{value_of, row_of, row, seen};
 
 use crate::cells::Cells;
@@ -94,4 +94,14 @@ pub fn tuple_of<R: Drop>(alloc: Global, items: Vec<Term<R>>) -> Result<Option<Te
     } else {
         Ok(None)
     }
+}
+
+/// The tagged tuple of an atom and a term, as reasons are, in a few steps. It may be past the bounds, since no program looks into its own reason. The error says that no memory was left.
+pub fn tagged<R: Drop>(alloc: Global, tag: u32, term: Term<R>) -> Result<Term<R>, AllocError>
+    ensures { IfOk result (λ pair. seen pair ≡ STuple (then (SAtom tag) (then (seen term) end))) }
+{
+    let mut items = Vec::new(alloc);
+    items.push(Term::Atom(tag))?;
+    items.push(term)?;
+    Ok(Term::Tuple(Held::new(alloc, Items::of(items))?))
 }
