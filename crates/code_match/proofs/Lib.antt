@@ -4,3 +4,10 @@ pub mod Filled
 pub mod Prepended
 pub mod Operands
 pub mod Tabled
+pub mod Meetings
+pub mod Longs
+pub mod Taking
+pub mod Fronts
+pub mod Matching
+pub mod Choosing
+pub mod Forms

@@ -2,3 +2,5 @@ pub mod Binds
 pub mod Shorter
 pub mod Rows
 pub mod Verdicts
+pub mod Matches
+pub mod Places

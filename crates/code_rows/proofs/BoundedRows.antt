@@ -1,10 +1,10 @@
 -- The row of items with one more at its end: its values, its measures, and whether it is within the bounds.
-use Rattle.std.proofs.Common.{◌≡◌, ◌+◌, ◌-◌, ◌^◌, ◌≤◌, ◌∙◌, ◌++◌, ◌∷◌, [], ◌&&◌, ℕ, Bool, true, false, List, length, map, min, max, nat_le, Option, Some, None, ap, sym, subst, refl, arith}
+use Rattle.std.proofs.Common.{◌≡◌, ◌+◌, ◌-◌, ◌^◌, ◌≤◌, ◌∙◌, ◌++◌, ◌∷◌, [], ◌&&◌, ℕ, Bool, true, false, List, length, map, min, max, nat_le, Option, Some, ap, sym, refl, arith}
 use Rattle.std.proofs.lemmas.Bool.{leb-true}
 use Rattle.std.proofs.lemmas.Grind.{common_steps}
 use Rattle.std.proofs.lemmas.List.{map-append}
-use Rattle.term_value.specs.Value.{Value, VList, Values, more, row as values, count}
-use Rattle.term_value.specs.Seen.{Row, count_of, weight_of, weights_of, depth_of, depths_of, meanings, IsKnown, AreKnown}
+use Rattle.term_value.specs.Value.{Value, VList, more, row as values, count}
+use Rattle.term_value.specs.Seen.{weight_of, weights_of, depth_of, depths_of, meanings, IsKnown, AreKnown}
 use Rattle.term_value.specs.Terms.{seen, row}
 use Rattle.term_value.specs.Bounds.{is_within, value_or_limit, within}
 use Rattle.term_value.specs.Result.{Result, Gives, Stops}

@@ -28,6 +28,10 @@ item_row s bs p v vs =
     let behind : matched s p v bs ≡ matched_behind bs (matched s (in_pattern bs p) v []) = ap (matched s p v) (sym (append-nil bs)) ∙ matched_under s bs p v [] in
     subst (λ m. IsRowOf bs m (list_rows s (in_pattern bs p) [] vs) (list_rows s (in_pattern bs p) [] (more v vs))) (sym behind) (behind_row bs (matched s (in_pattern bs p) v []) (list_rows s (in_pattern bs p) [] vs))
 
+-- the same, of a match that was found under equal bindings
+pub item_before : (s : Setting) (bs under : List Bound) (p : Pattern) (v : Value) (vs : Values) (m : Matched) → under ≡ bs → m ≡ matched s p v under → IsRowOf bs m (list_rows s (in_pattern bs p) [] vs) (list_rows s (in_pattern bs p) [] (more v vs))
+item_before s bs under p v vs m same is = subst (λ n. IsRowOf bs n (list_rows s (in_pattern bs p) [] vs) (list_rows s (in_pattern bs p) [] (more v vs))) (sym (is ∙ ap (matched s p v) same)) (item_row s bs p v vs)
+
 -- the row that bits give under bindings, where what is behind it has these rows left
 abbrev pub IsFrontRow : List Bound → (List Bool → List Row) → Front → List Row → Type 0
 IsFrontRow bs left (Takes (Found ys) rest) rows = (xs : List Bound) × ((ys ≡ bs ++ xs) × (rows ≡ Found xs ∷ left rest))
@@ -64,3 +68,8 @@ front_row s bs ss shape bits =
     (taken_row bs left bits (all_taken s (in_segments bs shape) [] bits) (all_taken s (in_segments bs ss) [] bits)) in
     let two = subst (λ t. IsFrontRow bs left (first_or_skips bits (taken_behind bs (all_taken s (in_segments bs shape) [] bits)) t) (left bits)) (sym (behind ss)) one in
     subst (λ u. IsFrontRow bs left (first_or_skips bits u (all_taken s ss bs bits)) (left bits)) (sym (behind shape)) two
+
+-- the same, of what was found in front
+pub bits_before : (s : Setting) (bs : List Bound) (ss shape : Segments) (bits : List Bool) (found : Front) → found ≡ front s ss shape bs bits
+    → IsFrontRow bs (λ rest. bit_rows s (in_segments bs ss) (in_segments bs shape) [] (length rest) rest) found (bit_rows s (in_segments bs ss) (in_segments bs shape) [] (length bits) bits)
+bits_before s bs ss shape bits found is = subst (λ f. IsFrontRow bs (λ rest. bit_rows s (in_segments bs ss) (in_segments bs shape) [] (length rest) rest) f (bit_rows s (in_segments bs ss) (in_segments bs shape) [] (length bits) bits)) (sym is) (front_row s bs ss shape bits)

@@ -1,5 +1,5 @@
 -- The rows that a generator has still to give (Erlang Reference Manual, "Comprehensions").
-use Rattle.std.specs.Prelude.{◌≡◌, Bool, List, [], ◌∷◌, ◌++◌, length}
+use Rattle.std.specs.Prelude.{◌≡◌, List, [], ◌∷◌, ◌++◌, length}
 use Rattle.term_value.specs.Setting.{Setting}
 use Rattle.term_value.specs.Seen.{meanings}
 use Rattle.term_value.specs.Tree as t

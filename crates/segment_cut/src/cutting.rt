@@ -1,11 +1,11 @@
 //! A segment taken off the front.
 
-ghost use Rattle.std.specs.Prelude.{◌≡◌, ◌+◌, ◌<◌, ◌≤◌, length, take, drop, IfOk, MatchOption, None};
+ghost use Rattle.std.specs.Prelude.{◌≡◌, ◌+◌, ◌≤◌, length, take, drop, IfOk, MatchOption, None};
 ghost use Rattle.bits_value.specs.Number.{number as number_of};
 ghost use Rattle.bits_value.specs.declared.TheConstants.{MAX_BITS};
 ghost use Rattle.term_value.specs.Extent as e;
 ghost use Rattle.term_value.specs.Decode as d;
-ghost use Rattle.bits_build.specs.Extents.{IsExtent, HasUnit};
+ghost use Rattle.bits_build.specs.Extents.{IsExtent};
 ghost use Rattle.erl_syntax.specs.declared.typing.Typed.{Typed};
 ghost use Rattle.segment_cut.specs.Cuts.{IsCut, IsNumber, IsPartOff, IsSpelledCut};
 
@@ -29,7 +29,6 @@ pub fn cut<R: Share + Drop, S: Store<R>>(
 ) -> Result<Option<CutOff<R>>, AllocError>
     requires valid { S.has store.now of.now }
     requires inside { at ≤ length (S.shown store.now of.now) }
-    requires unit { HasUnit extent }
     ensures { (wanted : e.Extent) → IsExtent wanted extent
         → IfOk result (λ found. IsCut (S.shown store.now) (S.has store.now) (S.shown store.now of.now) (d.cut typed wanted (drop at (S.shown store.now of.now))) found) }
 {
@@ -79,11 +78,10 @@ fn in_units<R: Share + Drop, S: Store<R>>(
 ) -> Result<Option<CutOff<R>>, AllocError>
     requires valid { S.has store.now of.now }
     requires inside { at ≤ length (S.shown store.now of.now) }
-    requires unit { 0 < unit }
     ensures { (typed : Typed) → IfOk result (λ found. IsCut (S.shown store.now) (S.has store.now) (S.shown store.now of.now) (d.cut typed (e.InUnits unit) (drop at (S.shown store.now of.now))) found) }
 {
     let bits = store.look(of).len() - at;
-    if bits % u32::from(unit) != 0 {
+    if !bits.is_multiple_of(u32::from(unit)) {
         return Ok(None);
     }
     Ok(Some(part(store, of, at, bits)?))
