@@ -1,2 +1,3 @@
-pub mod Reading
-pub mod Worlds
+pub mod Going
+pub mod Looking
+pub mod Standing

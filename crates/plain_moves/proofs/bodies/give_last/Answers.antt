@@ -1,0 +1,30 @@
+use Rattle.std.proofs.Common.{◌≡◌, ap, sym, ◌∙◌}
+use Rattle.expr_eval.specs.Answers.{setting}
+use Rattle.code_tree.specs.PlainTerms.{value}
+use Rattle.code_tree.specs.Reading.{patterns_of}
+use Rattle.code_match.specs.Binds.{bounds}
+use Rattle.code_match.specs.Matches.{match_of}
+use Rattle.term_value.specs.Match as m
+use Rattle.plain_moves.specs.Worlds.{world_of}
+use Rattle.plain_moves.proofs.Goes.{last_goes}
+use Rattle.plain_moves.proofs.bodies.give_last.Goals as goal
+
+pub returns-in-Yes : goal.returns-in-Yes
+returns-in-Yes c =
+    let s = setting c.caller.result.names.now c.caller.result.pid in (
+      0,
+      last_goes (world_of c.args.scene.now) s c.caller.ensures (bounds c.args.bindings) (value c.args.term) (patterns_of c.args.patterns.now) (m.Yes (bounds c.in-Yes.field-0))
+          (ap match_of (sym c.in-Yes.is) ∙ c.in_ok-all_matched.ensures ∙ ap (λ x. m.all_matched s (patterns_of c.args.patterns.now) (value x) (bounds c.args.bindings)) c.term-2.ensures.is),
+    )
+
+pub returns-in-No : goal.returns-in-No
+returns-in-No c =
+    let s = setting c.caller.result.names.now c.caller.result.pid in
+    last_goes (world_of c.args.scene.now) s c.caller.ensures (bounds c.args.bindings) (value c.args.term) (patterns_of c.args.patterns.now) m.No
+    (ap match_of (sym c.in-No.is) ∙ c.in_ok-all_matched.ensures ∙ ap (λ x. m.all_matched s (patterns_of c.args.patterns.now) (value x) (bounds c.args.bindings)) c.term-2.ensures.is)
+
+pub returns : goal.returns
+returns c =
+    let s = setting c.caller.result.names.now c.caller.result.pid in
+    last_goes (world_of c.args.scene.now) s c.caller.ensures (bounds c.args.bindings) (value c.args.term) (patterns_of c.args.patterns.now) m.MatchLimit
+    (ap match_of (sym c.in-Limit.is) ∙ c.in_ok-all_matched.ensures ∙ ap (λ x. m.all_matched s (patterns_of c.args.patterns.now) (value x) (bounds c.args.bindings)) c.term-2.ensures.is)
