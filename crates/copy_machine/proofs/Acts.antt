@@ -32,7 +32,7 @@ use Rattle.copy_machine.specs.Starting.{Begins}
 use Rattle.process_acts.specs.declared.process.First.{First}
 use Rattle.copy_machine.specs.declared.ending.Ending.{Ending}
 use Rattle.copy_machine.specs.declared.ending.Ending.TheVariants as ends
-use Rattle.copy_machine.proofs.Paths.{none, on_from}
+use Rattle.process_acts.proofs.Paths.{none, on_from}
 
 -- ---- What a process asks for that came to its ask
 

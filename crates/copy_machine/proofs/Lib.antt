@@ -1,8 +1,8 @@
 pub mod Acts
 pub mod Arities
 pub mod Machines
-pub mod Paths
 pub mod Places
+pub mod Proceeds
 pub mod Replays
 pub mod Rests
 pub mod Rows

@@ -22,7 +22,7 @@ use Rattle.copy_machine.specs.declared.machine.Machine.{Machine}
 use Rattle.copy_machine.specs.declared.row.Row.{Row}
 use Rattle.copy_machine.specs.declared.row.Row.TheVariants as r
 use Rattle.copy_machine.specs.declared.actor.Actor.{Actor}
-use Rattle.copy_machine.proofs.Paths.{none}
+use Rattle.process_acts.proofs.Paths.{none}
 use Rattle.copy_machine.proofs.Rows.{absent, sound, row_at, no_row, set_row, kept_row, push_row, same_length}
 
 abbrev at_place : m.Machine → ℕ → m.Process → m.Machine

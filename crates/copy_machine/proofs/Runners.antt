@@ -12,6 +12,7 @@ use Rattle.term_value.specs.declared.outcome.Outcome.{Outcome}
 use Rattle.copy_machine.specs.declared.progress.Progress.{Progress}
 use Rattle.copy_machine.specs.Following.{Follows, IsFollower}
 use Rattle.copy_machine.specs.Entering.{Applies}
+use Rattle.copy_machine.specs.Proceeding.{Keeps}
 use Rattle.copy_machine.specs.Replaying.{has_left}
 use Rattle.copy_machine.specs.Running.{GotTo, GoesOn, IsOwnEntry, IsOwnRun, IsUnderWay}
 use Rattle.copy_machine.proofs.Replays.{leads_more, all_gone}
@@ -57,3 +58,19 @@ module _ {P : Type 0} (code_of : P → Module) (local_of : P → Local) (waits_o
     follows = h;
     own = subst (λ (es : List Entry). All IsOwnEntry es) (sym none) (λ k d lt. absurd (omega arith));
   }
+
+  -- ---- Steps of a runner
+
+  pub waited : (old new : Progress P) → Keeps code_of local_of waits_of old.machine new.machine → new.entries.items ≡ old.entries.items → GoesOn code_of local_of waits_of old new
+  waited old new keeps same start h = record {
+    state = h.state;
+    leads = subst (λ (es : List Entry). m.Leads start es h.state) (sym same) h.leads;
+    follows = keeps h.state h.follows;
+    own = subst (λ (es : List Entry). All IsOwnEntry es) (sym same) h.own;
+  }
+
+  pub on_way : (old new : Progress P) → IsUnderWay code_of local_of waits_of old → GoesOn code_of local_of waits_of old new → IsUnderWay code_of local_of waits_of new
+  on_way old new h goes = (h.0, goes h.0 h.1)
+
+  pub further : (old mid new : Progress P) → GoesOn code_of local_of waits_of old mid → GoesOn code_of local_of waits_of mid new → GoesOn code_of local_of waits_of old new
+  further old mid new first later start h = later start (first start h)

@@ -5,14 +5,16 @@ ghost use Rattle.process_acts.specs.Acts.{AwaitsAnswer};
 ghost use Rattle.term_value.specs.Machine.{process_bound};
 ghost use Rattle.copy_machine.specs.Following.{StandsAt};
 ghost use Rattle.copy_machine.specs.Entering.{Acts, Answers, Rests, Setting, Settles, setting};
+ghost use Rattle.copy_machine.specs.Proceeding.{KeepsActor};
 
 use crate::act::{Act, Effect};
 use crate::asks::{called_by, ended_by, is_more, is_start, message_to, shown_by};
 use crate::ending::Ending;
 use crate::next_ask::next_ask;
+use crate::want::Want;
 use crate::world::World;
 use code_tree::PlainTerm;
-use process_acts::{Asking, Process};
+use process_acts::{Asking, Process, Turn};
 use shares::Share;
 use std::alloc::{AllocError, Global};
 use std::mem;
@@ -32,7 +34,7 @@ pub struct Actor<P> {
 const TRUE: u32 = 11;
 
 /// The most processes that may be started in a run.
-const PROCESS_BOUND: usize = 1_024;
+pub const PROCESS_BOUND: usize = 1_024;
 
 // Whether the pid is the one after those that were started, and no larger than a pid may be.
 fn is_next(child: u32, started: usize) -> bool
@@ -209,6 +211,34 @@ impl<P: Process + Drop> Actor<P> {
             Entry::Stopped { pid: _ } => Ok(Act::Ends(Ending::Waiting)),
             Entry::Gone { .. } => Ok(Act::Refused),
         }
+    }
+
+    // Runs by a turn, where it isn't at its ask.
+    fn proceed(&mut self, most: u32) -> Result<(), AllocError>
+        requires { StandsAt P.code P.local P.waits self.old.process self.old.ask }
+        ensures { IfOk result (λ _. KeepsActor P.code P.local P.waits self.old self.new) }
+    {
+        if self.ask.is_some() {
+            return Ok(());
+        }
+        match self.process.turn(most)? {
+            Turn::Yields => Ok(()),
+            Turn::Asks(ask) => {
+                self.ask = Some(ask);
+                Ok(())
+            }
+        }
+    }
+
+    /// What it wants next, after a turn of at most so many reductions. This is its pid, and so many processes were started.
+    pub fn want(&mut self, pid: u32, started: usize, most: u32) -> Result<Want, AllocError>
+        requires { StandsAt P.code P.local P.waits self.old.process self.old.ask }
+        ensures { IfOk result (λ _. KeepsActor P.code P.local P.waits self.old self.new) }
+    {
+        self.proceed(most)?;
+        let unseen = self.unseen.as_slice().len();
+        let want = Want::of(&self.ask, pid, started, unseen)?;
+        Ok(want)
     }
 
     /// Whether it waits: it asks for more messages, and has seen all.

@@ -12,12 +12,16 @@ mod machine;
 mod next_ask;
 mod outcome;
 mod progress;
+mod queue;
 mod replaying;
 mod row;
+mod running;
+mod want;
 mod world;
 
 pub use call::Call;
 pub use fault::CopyFault;
 pub use machine::Machine;
 pub use replaying::replay;
+pub use running::run;
 pub use world::World;

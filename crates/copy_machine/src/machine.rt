@@ -7,12 +7,14 @@ ghost use Rattle.code_tree.specs.PlainTerms.{value};
 ghost use Rattle.code_tree.specs.Reading.{module_of};
 ghost use Rattle.copy_machine.specs.Following.{Follows, IsFollower};
 ghost use Rattle.copy_machine.specs.Entering.{AllRest, Applies, Enters, MayEnter, IsOfCode, IsTimely, RestsAt, pid_of, took};
+ghost use Rattle.copy_machine.specs.Proceeding.{Keeps};
 
 use crate::act::Effect;
 use crate::actor::Actor;
 use crate::entries::{is_stop, pid_of};
 use crate::outcome::{all_left, ends_of};
 use crate::row::Row;
+use crate::want::Want;
 use crate::world::World;
 use code_tree::PlainTerm;
 use erl_syntax::{Listed, Text};
@@ -150,6 +152,21 @@ impl<'a, P: Process + Drop> Machine<'a, P> {
                 self.take(effect)?;
                 Ok(true)
             }
+        }
+    }
+
+    /// What the process of this pid wants next, after a turn of at most so many reductions.
+    pub fn want(&mut self, pid: u32, most: u32) -> Result<Want, AllocError>
+        requires { IsFollower P.code P.local P.waits self.old }
+        ensures { IfOk result (λ _. Keeps P.code P.local P.waits self.old self.new) }
+    {
+        if pid == 0 {
+            return Ok(Want::Nothing);
+        }
+        let started = self.rows.as_slice().len();
+        match self.rows.get_mut(pid as usize - 1) {
+            None => Ok(Want::Nothing),
+            Some(row) => Ok(row.want(pid, started, most)?),
         }
     }
 

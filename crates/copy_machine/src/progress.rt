@@ -4,6 +4,7 @@ ghost use Rattle.copy_machine.specs.Following.{Follows};
 ghost use Rattle.copy_machine.specs.Running.{GoesOn, GotTo, IsOwnEntry, IsOwnRun, IsUnderWay};
 
 use crate::machine::Machine;
+use crate::want::Want;
 use process_acts::Process;
 use std::alloc::{AllocError, Global};
 use term_value::{Entry, Outcome};
@@ -52,6 +53,15 @@ impl<'a, P: Process + Drop> Progress<'a, P> {
             machine,
             entries: Vec::new(alloc),
         }
+    }
+
+    /// What the process of this pid wants next, after a turn of at most so many reductions.
+    pub fn want(&mut self, pid: u32, most: u32) -> Result<Want, AllocError>
+        requires { IsUnderWay P.code P.local P.waits self.old }
+        ensures { IfOk result (λ _. GoesOn P.code P.local P.waits self.old self.new) }
+    {
+        let want = self.machine.want(pid, most)?;
+        Ok(want)
     }
 
     /// Enters the next entry of the run. The error says that memory ran out, or that the entry doesn't fit.

@@ -4,10 +4,12 @@ ghost use Rattle.term_value.specs.Tree.{Module};
 ghost use Rattle.term_value.specs.Machine.{Process as Played, is_at_rest, receives};
 ghost use Rattle.copy_machine.specs.Following.{IsRowOf, IsSound};
 ghost use Rattle.copy_machine.specs.Entering.{IsEffect, Setting, is_gone, setting};
+ghost use Rattle.copy_machine.specs.Proceeding.{KeepsRow};
 
 use crate::act::{Act, Effect};
 use crate::actor::Actor;
 use crate::ending::Ending;
+use crate::want::Want;
 use crate::world::World;
 use code_tree::PlainTerm;
 use process_acts::Process;
@@ -79,6 +81,17 @@ impl<P: Process + Drop> Row<P> {
                 Ok(())
             }
             Row::Ended { .. } => Ok(()),
+        }
+    }
+
+    /// What it wants next, after a turn of at most so many reductions.
+    pub fn want(&mut self, pid: u32, started: usize, most: u32) -> Result<Want, AllocError>
+        requires { IsSound P.code P.local P.waits self.old }
+        ensures { IfOk result (λ _. KeepsRow P.code P.local P.waits self.old self.new) }
+    {
+        match self {
+            Row::Running(actor) => Ok(actor.want(pid, started, most)?),
+            Row::Ended { .. } => Ok(Want::Nothing),
         }
     }
 

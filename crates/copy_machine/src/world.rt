@@ -1,8 +1,12 @@
-ghost use Rattle.std.specs.Prelude.{◌≡◌, ◌==◌, ◌&&◌, IfOk, nat_eq, true};
+ghost use Rattle.std.specs.Prelude.{◌≡◌, ◌==◌, ◌&&◌, IfOk, bytes_eq, codes, nat_eq, true};
 ghost use Rattle.std.specs.List.{position};
 ghost use Rattle.code_tree.specs.PlainTerms.{value};
 ghost use Rattle.code_tree.specs.Reading.{module_of};
-ghost use Rattle.term_value.specs.Machine.{exported_in};
+ghost use Rattle.erl_syntax.specs.Reading.{number_in};
+ghost use Rattle.process_acts.specs.Acts.{IsFirst};
+ghost use Rattle.term_value.specs.Local.{Local};
+ghost use Rattle.term_value.specs.Machine.{exported_in, first_of};
+ghost use Rattle.term_value.specs.Value.{none};
 ghost use Rattle.term_value.specs.Step.{name_in};
 ghost use Rattle.term_value.specs.Texts.{text};
 ghost use Rattle.copy_machine.specs.Starting.{Begins};
@@ -14,7 +18,7 @@ use code_tree::{Code, PlainTerm};
 use erl_syntax::Text;
 use process_acts::First;
 use std::alloc::{AllocError, Global};
-use term_value::show;
+use term_value::{Cells, Term, show};
 
 /// What a run has from its start on.
 #[derive(Drop)]
@@ -83,5 +87,41 @@ impl World<'_> {
             function,
             arguments: call.arguments,
         })
+    }
+
+    // The number of the atom with these characters.
+    fn atom(&self, chars: &[u8]) -> Option<usize>
+        ensures { result ≡ position (λ atom. bytes_eq atom chars.now) self.now.code.now.atoms }
+    {
+        let atoms = self.code.atoms.items();
+        atoms.iter().position(|atom| atom.bytes() == chars)
+    }
+
+    // The number of the atom with these characters, or the number of atoms where there is none.
+    fn number(&self, chars: &[u8]) -> usize
+        ensures { result ≡ number_in self.now.code.now.atoms chars.now }
+    {
+        match self.atom(chars) {
+            Some(number) => number,
+            None => self.code.atoms.items().len(),
+        }
+    }
+
+    /// With what process 1 begins: the call of `main/0`. The error says that there is no room for so large a number.
+    pub fn begin(&self) -> Result<First, AllocError>
+        ensures { IfOk result (λ first. (l : Local) → IsFirst first l
+            → let code = module_of self.now.code.now in l ≡ first_of code self.now.reductions 1 code.name (number_in code.atoms (codes "main")) none) }
+    {
+        match u32::try_from(self.number(b"main")) {
+            Ok(function) => {
+                let call = Call {
+                    module_name: self.code.name,
+                    function,
+                    arguments: PlainTerm::of(Term::List(Cells::Empty)),
+                };
+                Ok(self.first(call, 1)?)
+            }
+            Err(_) => Err(AllocError),
+        }
     }
 }

@@ -1,5 +1,5 @@
 use Rattle.std.proofs.Common.{refl, ◌∙◌}
-use Rattle.copy_machine.proofs.Paths.{none, on_from, turn_asks}
+use Rattle.process_acts.proofs.Paths.{none, on_from, turn_asks}
 use Rattle.copy_machine.proofs.next_ask.next_ask.Goals as goal
 
 pub loop-init : goal.loop-init
