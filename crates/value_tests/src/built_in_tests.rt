@@ -166,6 +166,13 @@ const DECIMALS: &[Row] = &[
         &[Given::Number(0)],
         Want::Gives(b"<<48>>"),
     ),
+    (
+        BuiltIn::IntegerToBinary,
+        &[Given::Number(i128::MIN)],
+        Want::Gives(
+            b"<<45,49,55,48,49,52,49,49,56,51,52,54,48,52,54,57,50,51,49,55,51,49,54,56,55,51,48,51,55,49,53,56,56,52,49,48,53,55,50,56>>",
+        ),
+    ),
     (BuiltIn::IntegerToBinary, &[OK], BAD_ARGUMENT),
     (
         BuiltIn::IntegerToBinary,
@@ -466,6 +473,62 @@ const KINDS: &[Row] = &[
 #[test]
 fn kinds_are_told_apart(rt: HostRuntime) -> Result<(), Fail> {
     for row in KINDS {
+        assert!(rt; answers(rt.alloc(), row));
+    }
+    Ok(())
+}
+
+/// A wrong number of arguments is this language's own: `badarg`.
+const COUNTS: &[Row] = &[
+    (BuiltIn::IsAtom, &[], BAD_ARGUMENT),
+    (BuiltIn::IsAtom, &[OK, OK], BAD_ARGUMENT),
+    (BuiltIn::BitSize, &[], BAD_ARGUMENT),
+    (
+        BuiltIn::ByteSize,
+        &[Given::Binary(b"a"), Given::Binary(b"b")],
+        BAD_ARGUMENT,
+    ),
+    (BuiltIn::TupleSize, &[], BAD_ARGUMENT),
+    (BuiltIn::Length, &[EMPTY, EMPTY], BAD_ARGUMENT),
+    (BuiltIn::Hd, &[], BAD_ARGUMENT),
+    (BuiltIn::Abs, &[], BAD_ARGUMENT),
+    (BuiltIn::Element, &[Given::Number(1)], BAD_ARGUMENT),
+    (BuiltIn::Max, &[Given::Number(1)], BAD_ARGUMENT),
+    (
+        BuiltIn::Min,
+        &[Given::Number(1), Given::Number(2), Given::Number(3)],
+        BAD_ARGUMENT,
+    ),
+    (BuiltIn::SelfPid, &[OK], BAD_ARGUMENT),
+    (
+        BuiltIn::BinaryPart,
+        &[Given::Binary(b"abc"), Given::Tuple(&[0, 1])],
+        BAD_ARGUMENT,
+    ),
+    (
+        BuiltIn::BinaryPartOf,
+        &[Given::Binary(b"abc"), Given::Number(0), Given::Number(1)],
+        BAD_ARGUMENT,
+    ),
+    (BuiltIn::Exit, &[], BAD_ARGUMENT),
+    (BuiltIn::Error, &[OK, EMPTY], BAD_ARGUMENT),
+    (BuiltIn::SplitBinary, &[Given::Binary(b"abc")], BAD_ARGUMENT),
+    (BuiltIn::BinaryToList, &[], BAD_ARGUMENT),
+    (BuiltIn::ListToBinary, &[EMPTY, EMPTY], BAD_ARGUMENT),
+    (
+        BuiltIn::IntegerToBinary,
+        &[Given::Number(10), Given::Number(2)],
+        BAD_ARGUMENT,
+    ),
+    (BuiltIn::BinaryToInteger, &[], BAD_ARGUMENT),
+    (BuiltIn::TupleToList, &[], BAD_ARGUMENT),
+    (BuiltIn::ListToTuple, &[], BAD_ARGUMENT),
+    (BuiltIn::Reverse, &[EMPTY, EMPTY], BAD_ARGUMENT),
+];
+
+#[test]
+fn arguments_are_counted(rt: HostRuntime) -> Result<(), Fail> {
+    for row in COUNTS {
         assert!(rt; answers(rt.alloc(), row));
     }
     Ok(())

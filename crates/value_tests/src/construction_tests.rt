@@ -25,6 +25,7 @@ enum Given {
 #[derive(Clone, Copy)]
 struct Segment {
     kind: Kind,
+    sign: Sign,
     endian: Endian,
     size: SizeUse,
     unit: u16,
@@ -36,6 +37,7 @@ struct Segment {
 fn sized(kind: Kind, value: Given, written: Given, unit: u16, endian: Endian) -> Segment {
     Segment {
         kind,
+        sign: Sign::Unsigned,
         endian,
         size: SizeUse::Given,
         unit,
@@ -55,10 +57,19 @@ fn number(value: i128, bits: i128, endian: Endian) -> Segment {
     )
 }
 
+/// The same, signed.
+fn signed(segment: Segment) -> Segment {
+    Segment {
+        sign: Sign::Signed,
+        ..segment
+    }
+}
+
 /// A segment without a size.
 fn plain(kind: Kind, size: SizeUse, unit: u16, value: Given, endian: Endian) -> Segment {
     Segment {
         kind,
+        sign: Sign::Unsigned,
         endian,
         size,
         unit,
@@ -127,7 +138,7 @@ fn part(store: &mut PlainStore, segment: Segment) -> Result<Part<Window>, StoreF
     };
     let typed = Typed {
         kind: segment.kind,
-        sign: Sign::Unsigned,
+        sign: segment.sign,
         endian: segment.endian,
         size: segment.size,
         unit: segment.unit.max(1),
@@ -273,6 +284,153 @@ fn bitstrings_and_characters_are_put_in(rt: HostRuntime) -> Result<(), Fail> {
     let joined = [whole(abc, 1), number(1, 4, Endian::Big), whole(abc, 1)];
     assert!(rt; gives(rt.alloc(), &joined, Ok((&[0xAB, 0xC1, 0xAB, 0xC0], 28))));
     assert!(rt; gives(rt.alloc(), &[], Ok((b"", 0))));
+    Ok(())
+}
+
+#[test]
+fn signs_units_and_endiannesses_are_kept_apart(rt: HostRuntime) -> Result<(), Fail> {
+    // as Erlang/OTP 25 builds
+    let abc = Given::Bits(0xABC, 12);
+    let rows: [(Segment, &[u8], u32); 16] = [
+        (signed(number(-2, 12, Endian::Big)), &[0xFF, 0xE0], 12),
+        (
+            signed(number(-3, 20, Endian::Little)),
+            &[0xFD, 0xFF, 0xF0],
+            20,
+        ),
+        (signed(number(300, 16, Endian::Little)), &[0x2C, 1], 16),
+        (signed(byte(-1)), &[255], 8),
+        (
+            sized(
+                Kind::Int,
+                Given::Number(5),
+                Given::Number(2),
+                16,
+                Endian::Big,
+            ),
+            &[0, 0, 0, 5],
+            32,
+        ),
+        (
+            sized(
+                Kind::Int,
+                Given::Number(5),
+                Given::Number(2),
+                16,
+                Endian::Little,
+            ),
+            &[5, 0, 0, 0],
+            32,
+        ),
+        (
+            sized(Kind::Binary, abc, Given::Number(3), 4, Endian::Big),
+            &[0xAB, 0xC0],
+            12,
+        ),
+        (
+            sized(Kind::Binary, abc, Given::Number(1), 4, Endian::Big),
+            &[0xA0],
+            4,
+        ),
+        (
+            sized(Kind::Binary, abc, Given::Number(2), 5, Endian::Big),
+            &[0xAB, 0xC0],
+            10,
+        ),
+        (
+            sized(Kind::Binary, abc, Given::Number(0), 8, Endian::Big),
+            &[],
+            0,
+        ),
+        (whole(abc, 4), &[0xAB, 0xC0], 12),
+        (
+            character(UtfKind::Utf8, Endian::Little, 0x20AC),
+            &[0xE2, 0x82, 0xAC],
+            24,
+        ),
+        (
+            character(UtfKind::Utf16, Endian::Little, 0x1F600),
+            &[0x3D, 0xD8, 0, 0xDE],
+            32,
+        ),
+        (
+            character(UtfKind::Utf16, Endian::Big, 0xFFFF),
+            &[0xFF, 0xFF],
+            16,
+        ),
+        (
+            character(UtfKind::Utf32, Endian::Big, 0x20AC),
+            &[0, 0, 0x20, 0xAC],
+            32,
+        ),
+        (
+            character(UtfKind::Utf32, Endian::Little, 0x10_FFFF),
+            &[0xFF, 0xFF, 0x10, 0],
+            32,
+        ),
+    ];
+    for (segment, bytes, len) in rows {
+        assert!(rt; gives(rt.alloc(), &[segment], Ok((bytes, len))), "{len}");
+    }
+    Ok(())
+}
+
+#[test]
+fn strings_have_a_character_form(rt: HostRuntime) -> Result<(), Fail> {
+    // as Erlang/OTP 25 builds: each character of the string with the form behind it
+    let in_utf8 = [
+        character(UtfKind::Utf8, Endian::Big, 0x68),
+        character(UtfKind::Utf8, Endian::Big, 0xE9),
+        character(UtfKind::Utf8, Endian::Big, 0x20AC),
+    ];
+    let in_utf16 = [
+        character(UtfKind::Utf16, Endian::Little, 0x61),
+        character(UtfKind::Utf16, Endian::Little, 0x1F600),
+    ];
+    let in_utf32 = [
+        character(UtfKind::Utf32, Endian::Big, 0x61),
+        character(UtfKind::Utf32, Endian::Big, 0x1F600),
+    ];
+    let rows: [(&[Segment], &[u8], u32); 3] = [
+        (&in_utf8, &[0x68, 0xC3, 0xA9, 0xE2, 0x82, 0xAC], 48),
+        (&in_utf16, &[0x61, 0, 0x3D, 0xD8, 0, 0xDE], 48),
+        (&in_utf32, &[0, 0, 0, 0x61, 0, 1, 0xF6, 0], 64),
+    ];
+    for (segments, bytes, len) in rows {
+        assert!(rt; gives(rt.alloc(), segments, Ok((bytes, len))), "{len}");
+    }
+    Ok(())
+}
+
+#[test]
+fn what_is_no_segment_is_refused(rt: HostRuntime) -> Result<(), Fail> {
+    // as Erlang/OTP 25 refuses
+    let abc = Given::Bits(0xABC, 12);
+    let rows: [Segment; 8] = [
+        sized(Kind::Binary, abc, Given::Number(1), 16, Endian::Big),
+        sized(Kind::Binary, abc, Given::Number(5), 3, Endian::Big),
+        whole(abc, 5),
+        character(UtfKind::Utf16, Endian::Big, 0xD800),
+        character(UtfKind::Utf32, Endian::Big, 0xDFFF),
+        character(UtfKind::Utf8, Endian::Big, -1),
+        plain(
+            Kind::Utf(UtfKind::Utf8),
+            SizeUse::NoSize,
+            1,
+            Given::Atom,
+            Endian::Big,
+        ),
+        plain(
+            Kind::Utf(UtfKind::Utf16),
+            SizeUse::NoSize,
+            1,
+            abc,
+            Endian::Big,
+        ),
+    ];
+    for segment in rows {
+        assert!(rt; gives(rt.alloc(), &[segment], Err(BuildFault::BadArg)));
+    }
     Ok(())
 }
 

@@ -30,6 +30,14 @@ pub(crate) enum Given {
     Tuple(&'static [i128]),
     /// A list: the list of these numbers, the binary of these bytes, and an empty list.
     Nested(&'static [i128], &'static [u8]),
+    /// So many bits, each 0.
+    Zeros(u32),
+    /// The list of two such bitstrings.
+    ZerosTwice(u32, u32),
+    /// The list of so many integers, each 0.
+    Long(u32),
+    /// So many lists, each the one item of the next, but for the innermost, which is empty.
+    Deep(u32),
 }
 
 /// What an evaluation is to answer: a text is of the value, or of the reason.
@@ -52,6 +60,10 @@ pub(crate) fn term(alloc: Global, store: &mut PlainStore, given: Given) -> Optio
         Given::List(numbers) => list(alloc, numbers),
         Given::Tuple(numbers) => tuple(alloc, numbers),
         Given::Nested(numbers, bytes) => nested(alloc, store, numbers, bytes),
+        Given::Zeros(len) => zeros(store, len),
+        Given::ZerosTwice(first, second) => zeros_twice(alloc, store, first, second),
+        Given::Long(count) => long(alloc, count),
+        Given::Deep(count) => deep(alloc, count),
     }
 }
 
@@ -71,9 +83,21 @@ fn binary(alloc: Global, store: &mut PlainStore, bytes: &[u8]) -> Option<Term<Wi
 fn bits(store: &mut PlainStore, value: i128) -> Option<Term<Window>>
     ensures { IfSome result (λ term. IsOver (λ of. length of ≤ MAX_BITS) AnyAtom term) }
 {
+    number_bits(store, value, 3)
+}
+
+fn zeros(store: &mut PlainStore, len: u32) -> Option<Term<Window>>
+    ensures { IfSome result (λ term. IsOver (λ of. length of ≤ MAX_BITS) AnyAtom term) }
+{
+    number_bits(store, 0, len)
+}
+
+fn number_bits(store: &mut PlainStore, value: i128, bits: u32) -> Option<Term<Window>>
+    ensures { IfSome result (λ term. IsOver (λ of. length of ≤ MAX_BITS) AnyAtom term) }
+{
     let pieces = [Piece::Number {
         value,
-        bits: 3,
+        bits,
         endian: Endian::Big,
     }];
     match store.fresh(&pieces, &mut Steps::new()) {
@@ -144,6 +168,65 @@ fn nested(
     let first = list(alloc, numbers)?;
     let second = binary(alloc, store, bytes)?;
     match vec![in alloc; first, second, Term::List(Cells::Empty)] {
+        Ok(items) => listed(alloc, items),
+        Err(_) => None,
+    }
+}
+
+fn zeros_twice(
+    alloc: Global,
+    store: &mut PlainStore,
+    first: u32,
+    second: u32,
+) -> Option<Term<Window>>
+    ensures { IfSome result (λ term. IsOver (λ of. length of ≤ MAX_BITS) AnyAtom term) }
+{
+    let first = zeros(store, first)?;
+    let second = zeros(store, second)?;
+    match vec![in alloc; first, second] {
+        Ok(items) => listed(alloc, items),
+        Err(_) => None,
+    }
+}
+
+fn long(alloc: Global, count: u32) -> Option<Term<Window>>
+    ensures { IfSome result (λ term. IsOver (λ of. length of ≤ MAX_BITS) AnyAtom term) }
+{
+    match zero_items(alloc, count) {
+        Ok(items) => listed(alloc, items),
+        Err(_) => None,
+    }
+}
+
+#[tactic(auto, using(crate::proofs::KnownRows::known_last))]
+fn zero_items(alloc: Global, count: u32) -> Result<Vec<Term<Window>>, AllocError>
+    ensures { IfOk result (λ items. AreKnown (λ of. length of ≤ MAX_BITS) AnyAtom (row items.items)) }
+{
+    let mut items = Vec::new(alloc);
+    for _item in 0..count {
+        items.push(Term::Int(0))?;
+    }
+    Ok(items)
+}
+
+fn deep(alloc: Global, count: u32) -> Option<Term<Window>>
+    ensures { IfSome result (λ term. IsOver (λ of. length of ≤ MAX_BITS) AnyAtom term) }
+{
+    let mut term = Term::List(Cells::Empty);
+    for _level in 1..count {
+        let Some(around) = one_item(alloc, term) else {
+            return None;
+        };
+        term = around;
+    }
+    Some(term)
+}
+
+fn one_item(alloc: Global, term: Term<Window>) -> Option<Term<Window>>
+    requires { IsOver (λ of. length of ≤ MAX_BITS) AnyAtom term }
+    ensures { IfSome result (λ term. IsOver (λ of. length of ≤ MAX_BITS) AnyAtom term) }
+{
+    match vec![in alloc; term] {
         Ok(items) => listed(alloc, items),
         Err(_) => None,
     }

@@ -1,4 +1,4 @@
-//! Tests of bits, characters, terms, built bitstrings and the texts of runs: what the definitions mean, row by row. The crates below keep no tests of their own.
+//! Tests of bits, characters, terms, built and cut bitstrings and the texts of runs: what the definitions mean, row by row. The crates below keep no tests of their own.
 #![tactic(auto)]
 
 #[cfg(test)]
@@ -10,7 +10,11 @@ mod character_tests;
 #[cfg(test)]
 mod construction_tests;
 #[cfg(test)]
+mod cut_tests;
+#[cfg(test)]
 mod given;
+#[cfg(test)]
+mod limit_tests;
 #[cfg(test)]
 mod operator_tests;
 #[cfg(test)]
