@@ -1,10 +1,4 @@
 pub mod Answers
-pub mod Binding
+pub mod Copies
 pub mod Runs
-pub mod SameAsks
-pub mod SameMatch
-pub mod SamePut
-pub mod SameRead
-pub mod SameRuns
-pub mod SameWalks
 pub mod Words

@@ -1,3 +1,3 @@
 pub mod Answer
 pub mod Command
-pub mod Runs
+pub mod Copying

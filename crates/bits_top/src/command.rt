@@ -1,16 +1,22 @@
 // The words of a command line.
 ghost use Rattle.std.specs.Prelude.{◌≡◌, ◌≤◌, ◌<◌, ℕ, List, map, string_bytes, MatchOption};
-ghost use Rattle.bits_top.specs.Command.{SpellsCommand, SpellsCheck, SpellsNumber, SpellsRun};
+ghost use Rattle.bits_top.specs.Command.{SpellsCheck, SpellsCommand, SpellsCopy, SpellsNumber, SpellsPlain, SpellsRun};
 ghost use Rattle.bits_top.specs.declared.command.Command.{Command};
 ghost use Rattle.bits_top.specs.declared.command.Run.{Run};
+ghost use Rattle.bits_top.specs.declared.plain.Plain.{Plain};
 
+use crate::Plain;
 use itoa::Buffer;
+
+const MOST_SCHEDULERS: u32 = 64;
+
+const MOST_REDUCTIONS: u32 = 4_000_000;
 
 // What the words ask for.
 #[derive(Clone, Copy, Debug, PartialEq, Eq)]
 pub(crate) enum Command {
     Run(Run),
-    Check,
+    Plain(Plain),
 }
 
 // `run MODULE ORDER SCHEDULERS REDUCTIONS`
@@ -44,10 +50,10 @@ fn run_of(words: &[String]) -> Option<Run>
     if name.as_str() != "run" || module.is_empty() || order.is_empty() {
         return None;
     }
-    let Some(schedulers) = number(schedulers.as_str(), 1, 64) else {
+    let Some(schedulers) = number(schedulers.as_str(), 1, MOST_SCHEDULERS) else {
         return None;
     };
-    let Some(reductions) = number(reductions.as_str(), 1, 4_000_000) else {
+    let Some(reductions) = number(reductions.as_str(), 1, MOST_REDUCTIONS) else {
         return None;
     };
     Some(Run {
@@ -69,6 +75,35 @@ fn check_of(words: &[String]) -> Option<()>
     Some(())
 }
 
+// The reductions of the copy that the words ask for, if they do.
+fn copy_of(words: &[String]) -> Option<u32>
+    ensures { MatchOption result ((n : ℕ) → SpellsCopy (map string_bytes words.now) n → ⊥) (λ n. SpellsCopy (map string_bytes words.now) n) }
+{
+    let [name, module, order, reductions] = words else {
+        return None;
+    };
+    if name.as_str() != "copy" || module.is_empty() || order.is_empty() {
+        return None;
+    }
+    let Some(reductions) = number(reductions.as_str(), 1, MOST_REDUCTIONS) else {
+        return None;
+    };
+    Some(reductions)
+}
+
+// The command that waits for nothing that the words spell, if they spell one.
+fn plain_of(words: &[String]) -> Option<Plain>
+    ensures { MatchOption result ((plain : Plain) → SpellsPlain (map string_bytes words.now) plain → ⊥) (λ plain. SpellsPlain (map string_bytes words.now) plain) }
+{
+    if let Some(()) = check_of(words) {
+        return Some(Plain::Check);
+    }
+    let Some(reductions) = copy_of(words) else {
+        return None;
+    };
+    Some(Plain::Copy { reductions })
+}
+
 // The command that the words spell, if they spell one.
 pub(crate) fn command_of(words: &[String]) -> Option<Command>
     ensures { MatchOption result ((command : Command) → SpellsCommand (map string_bytes words.now) command → ⊥) (λ command. SpellsCommand (map string_bytes words.now) command) }
@@ -76,8 +111,8 @@ pub(crate) fn command_of(words: &[String]) -> Option<Command>
     if let Some(run) = run_of(words) {
         return Some(Command::Run(run));
     }
-    let Some(()) = check_of(words) else {
+    let Some(plain) = plain_of(words) else {
         return None;
     };
-    Some(Command::Check)
+    Some(Command::Plain(plain))
 }

@@ -2,11 +2,10 @@
 #![tactic(auto)]
 
 mod command;
-mod matching;
+mod copying;
 mod plain;
 mod program;
-mod run;
-mod texts;
+mod running;
 
 pub use command_answers::Status;
 pub use plain::Plain;

@@ -2,6 +2,12 @@
 #![tactic(auto)]
 
 #[cfg(test)]
+mod calling;
+#[cfg(test)]
+mod copy_tests;
+#[cfg(test)]
 mod port_tests;
 #[cfg(test)]
 mod run_tests;
+#[cfg(test)]
+mod word_tests;

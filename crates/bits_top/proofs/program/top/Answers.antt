@@ -1,30 +1,40 @@
-use Rattle.std.proofs.Common.{sym, ◌∙◌}
-use Rattle.bits_top.proofs.Answers.{same_run_asked, smooth_done, smooth_refused, spelled_once}
-use Rattle.bits_top.specs.declared.command.Command.TheVariants.{Check, Run}
+use Rattle.std.proofs.Common.{refl}
+use Rattle.bits_top.proofs.Answers.{all_do_well, answers_all, no_usage_plain, no_usage_run, usage_for_none}
+use Rattle.bits_top.specs.declared.command.Command.TheVariants as made
 use Rattle.bits_top.proofs.program.top.Goals as goal
 
-pub returns-in-None-clause-run : goal.returns-in-None-clause-run
-returns-in-None-clause-run g c = λ run h. absurd (c.in-None.ensures (Run run) h)
+pub returns-in-None-clause-answers : goal.returns-in-None-clause-answers
+returns-in-None-clause-answers g c = λ command h. absurd (c.in-None.ensures command h)
 
 pub returns-in-None-clause-complete : goal.returns-in-None-clause-complete
-returns-in-None-clause-complete g c = λ run h s. absurd (c.in-None.ensures (Run run) h)
+returns-in-None-clause-complete g c = λ command h. absurd (c.in-None.ensures command h)
 
-pub returns-in-None-clause-refuses : goal.returns-in-None-clause-refuses
-returns-in-None-clause-refuses g c = λ run h s. absurd (c.in-None.ensures (Run run) h)
+pub returns-in-Some-Run-clause-usage : goal.returns-in-Some-Run-clause-usage
+returns-in-Some-Run-clause-usage g c =
+    usage_for_none _ c.in-Some-Run.field-0 c.run.result c.in-Some-Run.ensures (no_usage_run _ c.run.result _ _ _ c.run.ensures.answer)
 
-pub returns-in-Some-Run-clause-run : goal.returns-in-Some-Run-clause-run
-returns-in-Some-Run-clause-run g c = λ run h.
-    let same = same_run_asked c.in-Some-Run.asked run (sym c.in-Some-Run.field-0-is ∙ spelled_once _ c.in-Some-Run.field-0 run c.in-Some-Run.ensures h) in
-    rw same at c.run_module.ensures.run
+pub returns-in-Some-Run-clause-idle : goal.returns-in-Some-Run-clause-idle
+returns-in-Some-Run-clause-idle g c = λ e. absurd (no_usage_run _ c.run.result _ _ _ c.run.ensures.answer e)
+
+pub returns-in-Some-Run-clause-answers : goal.returns-in-Some-Run-clause-answers
+returns-in-Some-Run-clause-answers g c =
+    answers_all _ c.in-Some-Run.field-0 (made.Run c.in-Some-Run.asked) c.run.result _ _ _ _ c.in-Some-Run.field-0-is c.in-Some-Run.ensures (c.run.ensures.answer, record { told = refl; count = refl })
 
 pub returns-in-Some-Run-clause-complete : goal.returns-in-Some-Run-clause-complete
-returns-in-Some-Run-clause-complete g c = λ run h s. smooth_done c.run_module.result _ _ _ _ c.run_module.ensures.run s
+returns-in-Some-Run-clause-complete g c =
+    all_do_well _ c.in-Some-Run.field-0 (made.Run c.in-Some-Run.asked) c.run.result _ _ _ _ c.in-Some-Run.field-0-is c.in-Some-Run.ensures (c.runs_well.ensures _ c.run.result _ _ _ c.run.ensures.answer)
 
-pub returns-in-Some-Run-clause-refuses : goal.returns-in-Some-Run-clause-refuses
-returns-in-Some-Run-clause-refuses g c = λ run h s. smooth_refused c.run_module.result _ _ _ _ c.run_module.ensures.run s
+pub returns-in-Some-Plain-clause-usage : goal.returns-in-Some-Plain-clause-usage
+returns-in-Some-Plain-clause-usage g c =
+    usage_for_none _ c.in-Some-Plain.field-0 c.top_plain.result c.in-Some-Plain.ensures (no_usage_plain c.in-Some-Plain.plain c.top_plain.result _ _ _ c.top_plain.ensures.answers)
 
-pub returns-in-None-clause-check : goal.returns-in-None-clause-check
-returns-in-None-clause-check g c = λ h. absurd (c.in-None.ensures Check h)
+pub returns-in-Some-Plain-clause-idle : goal.returns-in-Some-Plain-clause-idle
+returns-in-Some-Plain-clause-idle g c = λ e. absurd (no_usage_plain c.in-Some-Plain.plain c.top_plain.result _ _ _ c.top_plain.ensures.answers e)
 
-pub returns-in-None-clause-checks : goal.returns-in-None-clause-checks
-returns-in-None-clause-checks g c = λ h. absurd (c.in-None.ensures Check h)
+pub returns-in-Some-Plain-clause-answers : goal.returns-in-Some-Plain-clause-answers
+returns-in-Some-Plain-clause-answers g c =
+    answers_all _ c.in-Some-Plain.field-0 (made.Plain c.in-Some-Plain.plain) c.top_plain.result _ _ _ _ c.in-Some-Plain.field-0-is c.in-Some-Plain.ensures (c.top_plain.ensures.answers, record { told = refl; count = refl })
+
+pub returns-in-Some-Plain-clause-complete : goal.returns-in-Some-Plain-clause-complete
+returns-in-Some-Plain-clause-complete g c =
+    all_do_well _ c.in-Some-Plain.field-0 (made.Plain c.in-Some-Plain.plain) c.top_plain.result _ _ _ _ c.in-Some-Plain.field-0-is c.in-Some-Plain.ensures c.top_plain.ensures.complete

@@ -1,6 +1,0 @@
-use Rattle.std.proofs.Common.{◌≡◌, take}
-use Rattle.term_value.specs.Orders.{order_text}
-use Rattle.bits_top.proofs.texts.order.Given as goal
-
-abbrev pub invariant-loop-entry : goal.invariant-loop-entry
-invariant-loop-entry l = l.text.items ≡ order_text (take l.entry-index l.entries)
