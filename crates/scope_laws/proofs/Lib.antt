@@ -1,4 +1,5 @@
 pub mod Calls
 pub mod Known
 pub mod Numbering
+pub mod Segments
 pub mod SpeltForms
