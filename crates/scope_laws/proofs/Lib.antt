@@ -1,5 +1,6 @@
 pub mod Calls
 pub mod Known
 pub mod Numbering
+pub mod Patterns
 pub mod Segments
 pub mod SpeltForms
