@@ -25,7 +25,7 @@ native_form built.Display e = cc e
 native_form built.Spawn e = cc e
 native_form _ e = refl
 
-trees_read : (r : Reading) (es : List Expr) → trees (map (expr_read r) es) ≡ trees_of r es
+pub trees_read : (r : Reading) (es : List Expr) → trees (map (expr_read r) es) ≡ trees_of r es
 trees_read r [] = refl
 trees_read r (e ∷ es) = ap (λ ts. and (tree_of r e) ts) (trees_read r es)
 
@@ -55,7 +55,7 @@ module _ (number_at : Span → ℕ) (m : Module) (s : Scope) (at : Span) (home :
   abbrev read_as : Form
   read_as = called (module_of rd (map (expr_read rd) home)) (rd.names name) (length (map (expr_read rd) args)) (rd.place name (length (map (expr_read rd) args)))
 
-  primitive : IsAccepted m → IsCalled m s at home name args → s.guarded ≡ true →
+  pub primitive : IsAccepted m → IsCalled m s at home name args → s.guarded ≡ true →
       (p : Prim) × (tree_of rd (x.Call at home name args) ≡ Evaluated (Table p) (trees_of rd args))
   primitive a h g =
       let e : tree_of rd (x.Call at home name args) ≡ Evaluated read_as (trees (map (expr_read rd) args)) = ap (λ r. r.tree) (expr_read-Call rd at home name args) in

@@ -1,4 +1,5 @@
 pub mod Calls
+pub mod Expressions
 pub mod Known
 pub mod Numbering
 pub mod Patterns
