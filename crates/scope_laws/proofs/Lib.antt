@@ -1,3 +1,4 @@
+pub mod Bodies
 pub mod Calls
 pub mod Expressions
 pub mod Known
