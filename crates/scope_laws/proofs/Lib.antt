@@ -1,5 +1,6 @@
 pub mod Bodies
 pub mod Calls
+pub mod Comprehensions
 pub mod Expressions
 pub mod Known
 pub mod Numbering
