@@ -7,3 +7,4 @@ pub mod Numbering
 pub mod Patterns
 pub mod Segments
 pub mod SpeltForms
+pub mod Whole
