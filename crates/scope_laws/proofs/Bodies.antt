@@ -27,12 +27,12 @@ use Rattle.term_layers.proofs.Readings.{expr_read, alt_read, branch_read, expr_r
 use Rattle.module_check.proofs.Complete.{reversed}
 use Rattle.module_check.proofs.Spots.{Contains-head, Contains-tail, cut_in}
 use Rattle.module_laws.specs.Variables.{expr_spans, pattern_spans, guard_spans, item_spans, alt_spans, branch_spans}
-use Rattle.module_laws.proofs.VariableForms.{in_exprs, in_patterns, in_items, in_alts, in_branches, expr-OneCase, expr-Receive, expr-If, item-of, alt-of, branch-of}
+use Rattle.module_laws.proofs.VariableForms.{in_patterns, in_items, in_alts, in_branches, expr-OneCase, expr-Receive, expr-If, item-of, alt-of, branch-of}
 use Rattle.scope_laws.proofs.Numbering.{Numbering, reader, Covers, Comes, covers_moved}
 use Rattle.scope_laws.proofs.Known.{Free, Grows, free_left, free_right, free_moved, free_after, comes_more, grows_moved}
 use Rattle.scope_laws.proofs.Segments.{ExprAt, PatternAt, Walks}
 use Rattle.scope_laws.proofs.Patterns.{PatternWalks, InTurnAt, in_turn_walk}
-use Rattle.scope_laws.proofs.Expressions.{exprs_walk, parts_at, by_read, reads}
+use Rattle.scope_laws.proofs.Expressions.{exprs_walk, parts_at, by_read}
 
 contains_one : {X : Type 0} (ys front : List X) (y : X) (back : List X) → ys ≡ front ++ y ∷ back → Contains ys y
 contains_one {X} ys front y back e = subst (λ (zs : List X). Contains zs y) (sym e) (cut_in front y back)
@@ -134,11 +134,11 @@ module _ (w : Numbering) where
       let grown : Grows w s.known (item_targets i) known (patterns_names (heads i)) (in_patterns (reverse ps)) = subst (λ (t : tree.Patterns). Grows w s.known (item_targets i) known (patterns_names t) (in_patterns (reverse ps))) same one.1 in
       record {
         value = h.1 s.known s.guarded known (record { scope = s; knows = refl; guards = refl; stands = st.0 }) c
-          (free_right w known (in_patterns ps) (expr_spans i.value) (free_moved w known (item_spans i) (in_patterns ps ++ expr_spans i.value) spans free));
+            (free_right w known (in_patterns ps) (expr_spans i.value) (free_moved w known (item_spans i) (in_patterns ps ++ expr_spans i.value) spans free));
         matched = subst (AreScopedInTurn known) same one.0;
         covers = grown.covers;
         comes = comes_more w known (patterns_names (heads i)) (in_patterns (reverse ps)) (item_spans i)
-          (λ z m. subst (λ (zs : List Span). Contains zs z) (sym spans) (Contains-append_left (in_patterns ps) (expr_spans i.value) z (spans_of_reversed ps z m))) grown.comes;
+            (λ z m. subst (λ (zs : List Span). Contains zs z) (sym spans) (Contains-append_left (in_patterns ps) (expr_spans i.value) z (spans_of_reversed ps z m))) grown.comes;
       }
 
   last_scoped : (known : List ℕ) (ps : List tree.Pattern) (t : Tree) → IsScoped known t → AreScopedInTurn known (from_right ps) → IsScoped known (last_line ps t)
@@ -160,7 +160,7 @@ module _ (w : Numbering) where
       let one = item_walk s i h.0 (st [] i (next ∷ is) refl) known c (free_left w known (item_spans i) (in_items (next ∷ is)) free) in
       let t : Scope = with_known (item_targets i) (behind (i.value ∷ []) s) in
       let rest = body_walk (next ∷ is) h.1 t (λ front j back e. st (i ∷ front) j back (ap (λ zs. i ∷ zs) e)) (patterns_names (heads i) ++ known) one.covers
-          (free_after w known (patterns_names (heads i)) (item_spans i) (in_items (next ∷ is)) free one.comes) in
+      (free_after w known (patterns_names (heads i)) (item_spans i) (in_items (next ∷ is)) free one.comes) in
       subst (λ (l : Line). IsScoped known l.value × (AreScopedInTurn known (from_right l.patterns) × IsScoped (patterns_names (from_right l.patterns) ++ known) (body (lines (next ∷ is))))) (sym (line_of-parts (reader w) i))
       (one.value, (one.matched, rest))
 
@@ -201,9 +201,12 @@ module _ (w : Numbering) where
       let one = hp bs bs known known p.0 c c in
       let grown : Grows w bs (targets pt) known names (pattern_spans pt) = grows_moved w bs (targets pt) (targets pt) known (pattern_names read) names (pattern_spans pt) (pattern_spans pt) refl (sym (append-nil (pattern_names read))) refl one.1 in
       let rest : Free w (names ++ known) (guard_spans g ++ in_items is) = free_after w known names (pattern_spans pt) (guard_spans g ++ in_items is)
-          (free_moved w known (alt_spans (roll-Alt layer)) (pattern_spans pt ++ (guard_spans g ++ in_items is)) (alt-of at pt g is) free) grown.comes in
-      let done : IsBranchScoped known (alt_parts layer) = ((one.0, tt), hg (bs ++ targets pt) (names ++ known) p.1 grown.covers,
-          body_scoped (bs ++ targets pt) is hi p.2 (names ++ known) grown.covers (free_right w (names ++ known) (guard_spans g) (in_items is) rest)) in
+      (free_moved w known (alt_spans (roll-Alt layer)) (pattern_spans pt ++ (guard_spans g ++ in_items is)) (alt-of at pt g is) free) grown.comes in
+      let done : IsBranchScoped known (alt_parts layer) = (
+        (one.0, tt),
+        hg (bs ++ targets pt) (names ++ known) p.1 grown.covers,
+        body_scoped (bs ++ targets pt) is hi p.2 (names ++ known) grown.covers (free_right w (names ++ known) (guard_spans g) (in_items is) rest),
+      ) in
       subst (IsBranchScoped known) (sym (alt_read-parts (reader w) (roll-Alt layer))) (subst (λ (v : AltLayer). IsBranchScoped known (alt_parts v)) (sym (out-roll-Alt layer)) done)
 
   abbrev BranchAt : List Bound → Branch → Type 0
@@ -244,23 +247,29 @@ module _ (w : Numbering) where
   alts_at e ys alts ch bs guarded place a m at pt g is i =
       let s : Scope = place.scope in
       let among : IsAlt alts at pt g is = subst (λ (z : Alt). Contains alts z) i m in
-      let knows = ap (λ (zs : List Bound). zs ++ targets pt) place.knows in
-      (record { scope = to_match (behind ys s); knows = place.knows; sees = place.knows; stands = alt_pattern s e ys alts at pt g is place.stands ch among },
-      λ tests y ht hy. record { scope = in_guard (with_known (targets pt) (behind ys s)); knows = knows; guards = refl; stands = alt_guard s e ys alts at pt g is tests y place.stands ch among ht hy },
-      record { scope = with_known (targets pt) (behind ys s); knows = knows; stands = alt_body s e ys alts at pt g is place.stands ch among })
+      let knows = ap (λ (zs : List Bound). zs ++ targets pt) place.knows in (
+        record { scope = to_match (behind ys s); knows = place.knows; sees = place.knows; stands = alt_pattern s e ys alts at pt g is place.stands ch among },
+        λ tests y ht hy. record { scope = in_guard (with_known (targets pt) (behind ys s)); knows = knows; guards = refl; stands = alt_guard s e ys alts at pt g is tests y place.stands ch among ht hy },
+        record { scope = with_known (targets pt) (behind ys s); knows = knows; stands = alt_body s e ys alts at pt g is place.stands ch among },
+      )
 
   branches_at : (e : Expr) (az : Span) (bs : List Branch) → e ≡ x.If az bs → (binds : List Bound) (guarded : Bool) → ExprAt w binds guarded e → (b : Branch) → Contains bs b → BranchAt binds b
   branches_at e az bs h binds guarded place b m at g is i =
-      let among : IsBranch bs at g is = subst (λ (z : Branch). Contains bs z) i m in
-      (λ tests y ht hy. record { scope = in_guard place.scope; knows = place.knows; guards = refl; stands = if_guard place.scope e az bs at g is tests y place.stands h among ht hy },
-      record { scope = place.scope; knows = place.knows; stands = if_body place.scope e az bs at g is place.stands h among })
+      let among : IsBranch bs at g is = subst (λ (z : Branch). Contains bs z) i m in (
+        λ tests y ht hy. record { scope = in_guard place.scope; knows = place.knows; guards = refl; stands = if_guard place.scope e az bs at g is tests y place.stands h among ht hy },
+        record { scope = place.scope; knows = place.knows; stands = if_body place.scope e az bs at g is place.stands h among },
+      )
 
   module _ (X : Type 0) where
     pub E-Case : (at : Span) (y : Expr) (alts : List Alt) → (X → ⊥) → Walks w X y → AllByRecursion AltWalks alts → Walks w X (x.Case at (y ∷ []) alts)
     E-Case at y alts n h g = by_read w X e (expression (First (tree_of (reader w) y) (Alts (clauses (map (alt_read (reader w)) alts))))) (expr_spans y ++ in_alts alts) (expr_read-Case (reader w) at (y ∷ []) alts) (expr-OneCase at y alts)
-        (λ bs guarded known a c free.
-        ((opens X y h bs guarded known (parts_at w X e (y ∷ []) (case e at (y ∷ []) alts refl) bs guarded a [] y [] refl) c (free_left w known (expr_spans y) (in_alts alts) (free n)),
-        alts_walk alts g bs known (alts_at e (y ∷ []) alts (case e at (y ∷ []) alts refl) bs guarded a) c (free_right w known (expr_spans y) (in_alts alts) (free n))), λ k t. absurd (n k)))
+        (λ bs guarded known a c free. (
+          (
+            opens X y h bs guarded known (parts_at w X e (y ∷ []) (case e at (y ∷ []) alts refl) bs guarded a [] y [] refl) c (free_left w known (expr_spans y) (in_alts alts) (free n)),
+            alts_walk alts g bs known (alts_at e (y ∷ []) alts (case e at (y ∷ []) alts refl) bs guarded a) c (free_right w known (expr_spans y) (in_alts alts) (free n)),
+          ),
+          λ k t. absurd (n k),
+        ))
       where
         e : Expr
         e = x.Case at (y ∷ []) alts

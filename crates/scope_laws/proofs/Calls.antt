@@ -1,7 +1,7 @@
 -- A call in a guard of an accepted module is of a built-in function for guards.
 use Rattle.std.proofs.Common.{◌≡◌, ℕ, true, List, [], ◌∷◌, map, length, refl, sym, ap, ◌∙◌}
 use Rattle.erl_syntax.specs.BuiltIns.{is_for_guards}
-use Rattle.erl_syntax.specs.Checking.{CallsBuiltIn, IsAccepted, IsCalled, call_in_guard}
+use Rattle.erl_syntax.specs.Checking.{IsAccepted, IsCalled, call_in_guard}
 use Rattle.erl_syntax.specs.Scopes.{Scope}
 use Rattle.erl_syntax.specs.declared.built_in.BuiltIn.{BuiltIn}
 use Rattle.erl_syntax.specs.declared.built_in.BuiltIn.TheVariants as built

@@ -1,5 +1,5 @@
 -- The comprehensions of a function of an accepted module: the variables of generators are new ones, and the row sees them all.
-use Rattle.std.proofs.Common.{◌≡◌, ◌≢◌, ℕ, Bool, List, [], ◌∷◌, ◌++◌, map, refl, sym, ap, subst, ◌∙◌, inl, inr, append_assoc, append-nil}
+use Rattle.std.proofs.Common.{◌≡◌, ℕ, Bool, List, [], ◌∷◌, ◌++◌, map, refl, sym, ap, subst, ◌∙◌, inl, inr, append_assoc, append-nil}
 use Rattle.std.specs.List.{AllByRecursion, Contains}
 use Rattle.std.proofs.lemmas.List.Elements.{Contains-append_left, Contains-append_right}
 use Rattle.erl_syntax.specs.Bindings.{Bound, targets, segment_targets, new_names}
@@ -16,8 +16,8 @@ use Rattle.term_value.specs.Tree.{Items, Bits, Tree, Gather, Generator, InList, 
 use Rattle.term_value.specs.Rows.{bits_generator}
 use Rattle.term_value.specs.Read.{expression, segments, Qualifier, Generates, Filters, qualified}
 use Rattle.term_value.specs.ReadTrees.{tree_of, pattern_of}
-use Rattle.term_layers.specs.Scoped.{pattern_names, segment_names, generator_names, AreNew, IsScoped, IsGeneratorScoped, AreQualsScoped}
-use Rattle.term_layers.proofs.Readings.{expr_read, qual_read, pieces_read, expr_read-ListFor, expr_read-BitsFor, qual_read-Items, qual_read-Bits, qual_read-Filter}
+use Rattle.term_layers.specs.Scoped.{generator_names, AreNew, IsScoped, IsGeneratorScoped, AreQualsScoped}
+use Rattle.term_layers.proofs.Readings.{qual_read, pieces_read, expr_read-ListFor, expr_read-BitsFor, qual_read-Items, qual_read-Bits, qual_read-Filter}
 use Rattle.term_layers.proofs.ScopedLaws.{shape_scoped}
 use Rattle.module_check.proofs.Chained.{found_joined}
 use Rattle.module_check.proofs.Left.{items_new, bits_new, filter_new}
@@ -126,7 +126,7 @@ module _ (w : Numbering) where
       let parts : Free w known (qual_spans g ++ (in_quals gs ++ rest)) = free_moved w known ((qual_spans g ++ in_quals gs) ++ rest) (qual_spans g ++ (in_quals gs ++ rest)) (append_assoc (qual_spans g) (in_quals gs) rest) free in
       let one = h.0 bs guarded known (at [] g gs refl) c (free_left w known (qual_spans g) (in_quals gs ++ rest) parts) in
       let more = quals_walk gs h.1 (new_names g ++ bs) guarded (qual_names read ++ known) (λ front z back e. at (g ∷ front) z back (ap (λ zs. g ∷ zs) e)) one.covers rest
-          (free_after w known (qual_names read) (qual_spans g) (in_quals gs ++ rest) parts one.comes) t k in
+      (free_after w known (qual_names read) (qual_spans g) (in_quals gs ++ rest) parts one.comes) t k in
       qual_step known read (map (qual_read (reader w)) gs) t one.scoped more
 
   quals_at : (e : Expr) (ys : List Expr) (quals : List Qual) → Comprehends e ys quals → (bs : List Bound) (guarded : Bool) → ExprAt w bs guarded e → QualsAt bs guarded quals

@@ -1,8 +1,8 @@
 -- The expressions of a function of an accepted module: each variable is known where it stands, and guards and sizes are tests.
-use Rattle.std.proofs.Common.{◌≡◌, ◌≢◌, ℕ, ℤ, pos, Bool, true, List, [], ◌∷◌, ◌++◌, map, length, Option, Some, None, refl, sym, ap, subst, ◌∙◌, append_assoc}
-use Rattle.std.specs.List.{AllByRecursion, Contains, flat_map}
+use Rattle.std.proofs.Common.{◌≡◌, ◌≢◌, ℕ, ℤ, pos, Bool, true, List, [], ◌∷◌, ◌++◌, map, Option, Some, None, refl, sym, ap, subst, ◌∙◌, append_assoc}
+use Rattle.std.specs.List.{AllByRecursion, flat_map}
 use Rattle.erl_syntax.specs.Bindings.{Bound}
-use Rattle.erl_syntax.specs.Checking.{IsRead, IsIn, IsCalled}
+use Rattle.erl_syntax.specs.Checking.{IsRead, IsCalled}
 use Rattle.erl_syntax.specs.Scopes.{Scope, Parts, tuple, list, call, unary, binary, behind, sizes_of, is_empty, part, segment, segment_value, segment_size}
 use Rattle.erl_syntax.specs.declared.span.Span.{Span}
 use Rattle.erl_syntax.specs.declared.expr.Expr.{Expr}
@@ -12,14 +12,11 @@ use Rattle.erl_syntax.specs.declared.expr.Op.TheVariants as o
 use Rattle.erl_syntax.specs.declared.expr.Prefix.{Prefix}
 use Rattle.erl_syntax.specs.declared.segment.Segment.{Segment}
 use Rattle.erl_syntax.specs.declared.segment.Spec.{Spec}
-use Rattle.term_value.specs.Value.{VInt, VAtom, VList}
+use Rattle.term_value.specs.Value.{VInt, VAtom}
 use Rattle.erl_syntax.specs.Atoms.{a_ok}
-use Rattle.term_value.specs.CallLaws.{trees_of}
-use Rattle.term_value.specs.Calls.{called}
-use Rattle.term_value.specs.Tree.{MakeTuple, Table, Form, Tree, Trees, Val, end, and, All as Evaluated}
+use Rattle.term_value.specs.Tree.{MakeTuple, Table, Tree, Trees, Val, All as Evaluated}
 use Rattle.term_value.specs.GuardLaws.{IsTest, AreTests}
-use Rattle.term_value.specs.Read.{Reading, Read, expression, literal, trees, Piece, piece, pieces_of, pieces, before_size, parts, built_from, listed, prefixed, operation, module_of}
-use Rattle.term_value.specs.Read as r
+use Rattle.term_value.specs.Read.{Read, expression, literal, trees, Piece, piece, pieces_of, before_size, parts, built_from, listed, prefixed, operation}
 use Rattle.term_value.specs.ReadTrees.{variable, string, tree_of}
 use Rattle.term_layers.specs.Scoped.{IsScoped, AreScoped}
 use Rattle.term_layers.proofs.Readings.{expr_read, segment_read, pieces_read, optional_read, expr_read-Var, expr_read-Wild, expr_read-Int, expr_read-Char, expr_read-Atom, expr_read-ModuleName, expr_read-Str, expr_read-Tuple, expr_read-List, expr_read-Bits, expr_read-Call, expr_read-Unary, expr_read-Binary, segment_read-parts}
@@ -145,9 +142,10 @@ module _ (w : Numbering) where
     E-Call at home name ys h bs guarded known a c free =
         let e : Expr = x.Call at home name ys in
         let all = exprs_walk ys h bs guarded known (parts_at e ys (call e at home name ys refl) bs guarded a) c
-            (λ n. free_right w known (in_exprs home) (in_exprs ys) (free_moved w known (expr_spans e) (in_exprs home ++ in_exprs ys) (expr-Call at home name ys) (free n))) in
-        (subst (λ (z : Read). IsScoped known z.tree) (sym (expr_read-Call (reader w) at home name ys)) all.0,
-        λ k t. call_test at home name ys a.scope (record { expr = e; is = refl; stands = record { function = w.function; among = w.among; stands = a.stands } }) (a.guards ∙ t) (all.1 k t))
+        (λ n. free_right w known (in_exprs home) (in_exprs ys) (free_moved w known (expr_spans e) (in_exprs home ++ in_exprs ys) (expr-Call at home name ys) (free n))) in (
+          subst (λ (z : Read). IsScoped known z.tree) (sym (expr_read-Call (reader w) at home name ys)) all.0,
+          λ k t. call_test at home name ys a.scope (record { expr = e; is = refl; stands = record { function = w.function; among = w.among; stands = a.stands } }) (a.guards ∙ t) (all.1 k t),
+        )
 
     -- ---- Bit expressions
 
@@ -202,7 +200,7 @@ module _ (w : Numbering) where
     built_walk (sg ∷ sgs) h bs guarded known at c free =
         let a = at [] sg sgs refl in
         let own : (X → ⊥) → Free w known (expr_spans sg.value ++ in_size sg.size) = λ n. free_moved w known (segment_spans sg) (expr_spans sg.value ++ in_size sg.size) (segment-of sg.at sg.value sg.size sg.specs)
-            (free_left w known (segment_spans sg) (in_segments sgs) (free n)) in
+        (free_left w known (segment_spans sg) (in_segments sgs) (free n)) in
         let value = h.0.0 bs guarded known a.0 c (λ n. free_left w known (expr_spans sg.value) (in_size sg.size) (own n)) in
         let size = by_size bs guarded known sg.size h.0.1 a.1 c (λ n. free_right w known (expr_spans sg.value) (in_size sg.size) (own n)) in
         let read = expr_read (reader w) sg.value in
@@ -213,9 +211,10 @@ module _ (w : Numbering) where
     built_at : (at : Span) (sgs : List Segment) (bs : List Bound) (guarded : Bool) → ExprAt w bs guarded (x.Bits at sgs) → BuiltAt bs guarded sgs
     built_at at sgs bs guarded a front sg back i =
         let s : Scope = behind (flat_map (λ g. g.value ∷ sizes_of g) front) a.scope in
-        let st = segment a.scope (x.Bits at sgs) at sgs front sg back a.stands refl i in
-        (record { scope = s; knows = a.knows; guards = a.guards; stands = segment_value s (is_empty back) sg st },
-        λ y e. record { scope = behind (sg.value ∷ []) s; knows = a.knows; guards = a.guards; stands = segment_size s (is_empty back) sg y st e })
+        let st = segment a.scope (x.Bits at sgs) at sgs front sg back a.stands refl i in (
+          record { scope = s; knows = a.knows; guards = a.guards; stands = segment_value s (is_empty back) sg st },
+          λ y e. record { scope = behind (sg.value ∷ []) s; knows = a.knows; guards = a.guards; stands = segment_size s (is_empty back) sg y st e },
+        )
 
     pub E-Bits : (at : Span) (sgs : List Segment) → AllByRecursion (SegmentWalks w X) sgs → Walks w X (x.Bits at sgs)
     E-Bits at sgs h = by_read (x.Bits at sgs) (expression (built_from (pieces_read (reader w) sgs))) (in_segments sgs) (expr_read-Bits (reader w) at sgs) (expr-Bits at sgs)

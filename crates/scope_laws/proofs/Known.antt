@@ -1,15 +1,13 @@
 -- How what is known grows, from part to part of a function.
-use Rattle.std.proofs.Common.{◌≡◌, ℕ, List, [], ◌∷◌, ◌++◌, refl, sym, ap, subst, ◌∙◌, ◌⊎◌, inl, inr, append_assoc, append-nil}
-use Rattle.std.specs.List.{All, Contains}
+use Rattle.std.proofs.Common.{◌≡◌, ℕ, List, [], ◌∷◌, ◌++◌, sym, subst, ◌∙◌, inl, inr, append_assoc, append-nil}
+use Rattle.std.specs.List.{Contains}
 use Rattle.std.proofs.lemmas.List.Elements.{All-contains, Contains-append_left, Contains-append_right, Contains-append_cases}
 use Rattle.erl_syntax.specs.Bindings.{Bound}
 use Rattle.erl_syntax.specs.Checking.{IsBefore, RisingBy}
-use Rattle.erl_syntax.specs.Scopes.{Found, IsKnown}
 use Rattle.erl_syntax.specs.declared.span.Span.{Span}
-use Rattle.module_check.proofs.Chained.{found_joined}
 use Rattle.module_check.proofs.Spots.{Contains-head, Contains-tail, none_in, only_one}
 use Rattle.module_laws.proofs.NumberedPlaces.{numbers_differ}
-use Rattle.scope_laws.proofs.Numbering.{Numbering, number, Within, Differ, Covers, BoundAt, Elsewhere, Apart, Comes, covers_moved, covers_more}
+use Rattle.scope_laws.proofs.Numbering.{Numbering, Within, Differ, Covers, Apart, Comes, covers_moved, covers_more}
 use Rattle.std.proofs.Common.{arith}
 
 -- ---- Places that differ
@@ -141,7 +139,7 @@ module _ (w : Numbering) where
       Grows bs (new ++ more) known (names ++ others) (xs ++ ys)
   grows_then bs new more known names others xs ys h g = record {
     covers = covers_moved w ((bs ++ new) ++ more) (bs ++ (new ++ more)) ((names ++ others) ++ known) (append_assoc bs new more)
-      (covers_more w ((bs ++ new) ++ more) (others ++ (names ++ known)) ((names ++ others) ++ known) (within_turned names others known) g.covers);
+        (covers_more w ((bs ++ new) ++ more) (others ++ (names ++ known)) ((names ++ others) ++ known) (within_turned names others known) g.covers);
     comes = λ n k. elim (Contains-append_cases names others n k) [
       | inl m ↦ comes_more known names xs (xs ++ ys) (λ c i. Contains-append_left xs ys c i) h.comes n m
       | inr m ↦ elim (g.comes n m) [

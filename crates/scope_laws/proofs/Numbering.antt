@@ -1,21 +1,20 @@
 -- What is known where in a function of an accepted module, by the numbers of its variables.
-use Rattle.std.proofs.Common.{◌≡◌, ◌≢◌, ℕ, Bool, List, [], ◌∷◌, ◌++◌, refl, sym, ap, subst, ◌∙◌, ◌⊎◌, inl, inr, append_assoc}
+use Rattle.std.proofs.Common.{◌≡◌, ℕ, List, [], ◌∷◌, ◌++◌, refl, sym, ap, subst, ◌∙◌, ◌⊎◌, inl, inr}
 use Rattle.std.specs.List.{Contains}
-use Rattle.std.proofs.lemmas.List.Elements.{Contains-append_left, Contains-append_right, Contains-append_cases}
 use Rattle.erl_syntax.specs.Bindings.{Bound}
 use Rattle.erl_syntax.specs.Checking.{IsAccepted, IsNumbered, IsPlace, IsRead, IsTarget, read, compared, bound, number_at}
-use Rattle.erl_syntax.specs.Scopes.{Scope, Found, IsKnown}
+use Rattle.erl_syntax.specs.Scopes.{Scope, Found}
 use Rattle.erl_syntax.specs.declared.checking.VarUse.{VarUse}
 use Rattle.erl_syntax.specs.declared.module.Function.{Function}
 use Rattle.erl_syntax.specs.declared.module.Module.{Module}
 use Rattle.erl_syntax.specs.declared.span.Span.{Span}
 use Rattle.module_check.specs.Spots.{place_of}
 use Rattle.module_check.proofs.Backed.{binder}
-use Rattle.module_check.proofs.Chained.{found_known, found_joined, known_cases}
-use Rattle.module_check.proofs.Spots.{Contains-head, Contains-tail, none_in}
+use Rattle.module_check.proofs.Chained.{found_joined, known_cases}
+use Rattle.module_check.proofs.Spots.{Contains-head, Contains-tail}
 use Rattle.module_check.proofs.Standing.{known_found}
 use Rattle.module_check.proofs.Valued.{valued}
-use Rattle.module_laws.proofs.NumberedPlaces.{numbers_are_of_places, numbers_differ}
+use Rattle.module_laws.proofs.NumberedPlaces.{numbers_are_of_places}
 use Rattle.term_value.specs.Read.{Reading}
 use Rattle.term_value.specs.ReadTrees.{reading}
 

@@ -1,8 +1,7 @@
 -- The patterns of a function: their sizes see only what is known there, and behind a pattern its variables are known too.
-use Rattle.std.proofs.Common.{◌≡◌, ◌≢◌, ℕ, ℤ, pos, Bool, List, [], ◌∷◌, ◌++◌, map, reverse, refl, sym, ap, subst, ◌∙◌, ◌⊎◌, inl, inr, append_assoc, append-nil}
-use Rattle.std.specs.List.{AllByRecursion, Contains, flat_map}
+use Rattle.std.proofs.Common.{◌≡◌, ℕ, ℤ, pos, List, [], ◌∷◌, ◌++◌, map, refl, sym, ap, subst, ◌∙◌, ◌⊎◌, append_assoc, append-nil}
+use Rattle.std.specs.List.{AllByRecursion, Contains}
 use Rattle.std.proofs.lemmas.Grind.{flat_map-append}
-use Rattle.std.proofs.lemmas.List.Elements.{Contains-append_left, Contains-append_right, Contains-append_cases}
 use Rattle.erl_syntax.specs.Bindings.{Bound, Vars, Row, expr_layer, pattern_layer, qual_layer, alt_layer, branch_layer, guard_layer, item_layer, segment_layer, targets, targets_of, segment_targets}
 use Rattle.erl_syntax.specs.Checking.{IsTarget, in_pattern}
 use Rattle.erl_syntax.specs.Scopes.{Scope, PatternParts, tuple, list, same, past_patterns, past_segments, is_empty, pattern_part, pattern_segment}
@@ -19,7 +18,7 @@ use Rattle.term_value.specs.Tree.{PWild, PVar, PVal, PTuple, PList, PListOn, PBi
 use Rattle.term_value.specs.Tree as tree
 use Rattle.term_value.specs.Read.{patterns, pattern_list, segments}
 use Rattle.term_value.specs.ReadTrees.{pattern_of}
-use Rattle.term_layers.specs.Scoped.{pattern_names, patterns_names, segment_names, IsPatternScoped, ArePatternsScoped, AreScopedInTurn, AreSegmentsScoped}
+use Rattle.term_layers.specs.Scoped.{pattern_names, patterns_names, IsPatternScoped, ArePatternsScoped, AreScopedInTurn}
 use Rattle.term_layers.proofs.Readings.{pieces_read, pattern_of-Var, pattern_of-Wild, pattern_of-Int, pattern_of-Char, pattern_of-Atom, pattern_of-Str, pattern_of-Tuple, pattern_of-List, pattern_of-Bits, pattern_of-Same}
 use Rattle.module_check.proofs.Left.{tuple_targets, list_targets, bits_targets, same_targets}
 use Rattle.module_check.proofs.Spots.{only_one}
@@ -27,7 +26,7 @@ use Rattle.module_laws.specs.Variables.{pattern_spans}
 use Rattle.module_laws.proofs.VariableForms.{in_patterns, in_segments, pattern-Var, pattern-Wild, pattern-Int, pattern-Char, pattern-Atom, pattern-Str, pattern-Tuple, pattern-List, pattern-Bits, pattern-Same}
 use Rattle.scope_laws.proofs.Numbering.{Numbering, number, reader, Covers, BoundAt, target_covers, target_comes}
 use Rattle.scope_laws.proofs.Known.{Grows, grows_none, grows_then, grows_moved}
-use Rattle.scope_laws.proofs.Segments.{PatternAt, SegmentAt, SegmentWalks, SegmentsAt, pattern_segments}
+use Rattle.scope_laws.proofs.Segments.{PatternAt, SegmentWalks, SegmentsAt, pattern_segments}
 use Rattle.scope_laws.proofs.SpeltForms.{Short}
 
 targets-Wild : (at : Span) → targets (p.Wild at) ≡ []
@@ -68,7 +67,7 @@ module _ (w : Numbering) where
       let one = h.0 bs os known seen (record { scope = a.scope; knows = a.knows ∙ append-nil bs; sees = a.sees; stands = a.stands }) c d in
       let named = pattern_names (pattern_of (reader w) pt) in
       let rest = patterns_walk ps h.1 (bs ++ targets pt) os (named ++ known) seen (λ front y back e. (let b = at (pt ∷ front) y back (ap (λ zs. pt ∷ zs) e) in
-          record { scope = b.scope; knows = b.knows ∙ sym (append_assoc bs (targets pt) (targets_of front)); sees = b.sees; stands = b.stands })) one.1.covers d in
+      record { scope = b.scope; knows = b.knows ∙ sym (append_assoc bs (targets pt) (targets_of front)); sees = b.sees; stands = b.stands })) one.1.covers d in
       ((one.0, rest.0), grows_then w bs (targets pt) (targets_of ps) known named (patterns_names (of_all ps)) (pattern_spans pt) (in_patterns ps) one.1 rest.1)
 
   -- patterns that are matched one behind another, as those of an item: the sizes of the later ones see what the earlier ones bind
@@ -83,8 +82,8 @@ module _ (w : Numbering) where
       let one = h.0 bs bs known known (record { scope = a.scope; knows = a.knows ∙ append-nil bs; sees = a.sees ∙ append-nil bs; stands = a.stands }) c c in
       let named = pattern_names (pattern_of (reader w) pt) in
       let rest = in_turn_walk ps h.1 (bs ++ targets pt) (named ++ known) (λ front y back e. (let b = at (pt ∷ front) y back (ap (λ zs. pt ∷ zs) e) in
-          let i = sym (append_assoc bs (targets pt) (targets_of front)) in
-          record { scope = b.scope; knows = b.knows ∙ i; sees = b.sees ∙ i; stands = b.stands })) one.1.covers in
+      let i = sym (append_assoc bs (targets pt) (targets_of front)) in
+      record { scope = b.scope; knows = b.knows ∙ i; sees = b.sees ∙ i; stands = b.stands })) one.1.covers in
       ((one.0, rest.0), grows_then w bs (targets pt) (targets_of ps) known named (patterns_names (of_all ps)) (pattern_spans pt) (in_patterns ps) one.1 rest.1)
 
   -- ---- Forms
@@ -168,17 +167,18 @@ module _ (w : Numbering) where
           let all : PatternsAt bs os (ps ++ tail) = by_parts (p.List at ps tail) (ps ++ tail) (list (p.List at ps tail) at ps tail refl) bs os a in
           let one = patterns_walk ps h bs os known seen (λ front y back e. all front y (back ++ tail) (ap (λ (zs : List Pattern). zs ++ tail) e ∙ append_assoc front (y ∷ back) tail)) c k in
           let rest = patterns_walk tail g (bs ++ targets_of ps) os (patterns_names (of_all ps) ++ known) seen (λ front y back e.
-              (let b = all (ps ++ front) y back (ap (λ (zs : List Pattern). ps ++ zs) e ∙ sym (append_assoc ps front (y ∷ back))) in
-              record {
-                scope = b.scope;
-                knows = b.knows ∙ ap (λ (zs : List Bound). bs ++ zs) (flat_map-append targets ps front) ∙ sym (append_assoc bs (targets_of ps) (targets_of front));
-                sees = b.sees;
-                stands = b.stands;
-              })) one.1.covers k in
-          let grown = grows_then w bs (targets_of ps) (targets_of tail) known (patterns_names (of_all ps)) (patterns_names (of_all tail)) (in_patterns ps) (in_patterns tail) one.1 rest.1 in
-          (list_scoped seen ps tail s one.0 rest.0,
-          grows_moved w bs (targets_of ps ++ targets_of tail) (targets_of ps ++ targets_of tail) known (patterns_names (of_all ps) ++ patterns_names (of_all tail)) (pattern_names (pattern_list (map (pattern_of (reader w)) ps) (map (pattern_of (reader w)) tail)))
-          (in_patterns ps ++ in_patterns tail) (in_patterns ps ++ in_patterns tail) refl (list_names ps tail s) refl grown)
+          (let b = all (ps ++ front) y back (ap (λ (zs : List Pattern). ps ++ zs) e ∙ sym (append_assoc ps front (y ∷ back))) in
+          record {
+            scope = b.scope;
+            knows = b.knows ∙ ap (λ (zs : List Bound). bs ++ zs) (flat_map-append targets ps front) ∙ sym (append_assoc bs (targets_of ps) (targets_of front));
+            sees = b.sees;
+            stands = b.stands;
+          })) one.1.covers k in
+          let grown = grows_then w bs (targets_of ps) (targets_of tail) known (patterns_names (of_all ps)) (patterns_names (of_all tail)) (in_patterns ps) (in_patterns tail) one.1 rest.1 in (
+            list_scoped seen ps tail s one.0 rest.0,
+            grows_moved w bs (targets_of ps ++ targets_of tail) (targets_of ps ++ targets_of tail) known (patterns_names (of_all ps) ++ patterns_names (of_all tail)) (pattern_names (pattern_list (map (pattern_of (reader w)) ps) (map (pattern_of (reader w)) tail)))
+                (in_patterns ps ++ in_patterns tail) (in_patterns ps ++ in_patterns tail) refl (list_names ps tail s) refl grown,
+          )
 
   pub P-Bits : (X : Type 0) (at : Span) (sgs : List Segment) → X → AllByRecursion (SegmentWalks w X) sgs → PatternWalks (p.Bits at sgs)
   P-Bits X at sgs k h = by_reading (p.Bits at sgs) (PBits (segments (pieces_read (reader w) sgs))) (segment_targets sgs) (in_segments sgs) (pattern_of-Bits (reader w) at sgs) (bits_targets (p.Bits at sgs) at sgs refl) (pattern-Bits at sgs)

@@ -1,11 +1,11 @@
 -- Where a part of a function stands, and the segments of a bit pattern: each size sees only what is known there.
 use Rattle.std.proofs.Common.{◌≡◌, ◌≢◌, ℕ, pos, Bool, true, List, [], ◌∷◌, ◌++◌, map, Option, Some, None, refl, sym, ap, subst, ◌∙◌, ◌⊎◌, inl, inr, append_assoc, append-nil}
-use Rattle.std.specs.List.{AllByRecursion, Contains, flat_map}
+use Rattle.std.specs.List.{AllByRecursion, Contains}
 use Rattle.std.proofs.lemmas.List.{map-append}
 use Rattle.std.proofs.lemmas.List.Elements.{Contains-append_left, Contains-append_right, Contains-append_cases}
 use Rattle.erl_syntax.specs.Bindings.{Bound, Vars, Row, names, expr_layer, pattern_layer, qual_layer, alt_layer, branch_layer, guard_layer, item_layer, segment_layer, vars_of, vars_of_segment, segment_targets}
 use Rattle.erl_syntax.specs.Checking.{IsTarget, in_segment}
-use Rattle.erl_syntax.specs.Scopes.{Scope, AnExpr, APattern, ASegment, ABody, Stands, Found, IsKnown, IsSizeScope, pattern_size}
+use Rattle.erl_syntax.specs.Scopes.{Scope, AnExpr, APattern, ASegment, Stands, Found, IsKnown, IsSizeScope, pattern_size}
 use Rattle.erl_syntax.specs.declared.span.Span.{Span}
 use Rattle.erl_syntax.specs.declared.expr.Expr.{Expr, out-Expr, roll-Expr, roll-out-Expr}
 use Rattle.erl_syntax.specs.declared.expr.Expr.TheVariants as x
@@ -26,12 +26,12 @@ use Rattle.erl_syntax.specs.declared.typing.SideUse.TheVariants as side
 use Rattle.term_value.specs.Value.{VInt}
 use Rattle.term_value.specs.Tree.{Target, Anything, Variable, Equal, Tree, Trees, end, and}
 use Rattle.term_value.specs.Tree as tree
-use Rattle.term_value.specs.GuardLaws.{IsTest, AreTests}
+use Rattle.term_value.specs.GuardLaws.{IsTest}
 use Rattle.term_value.specs.Read.{Read, literal, Piece, piece, pieces, pieces_of, before_size, segments, signed_target, target_of, Line, Qualifier}
 use Rattle.term_value.specs.Read as r
 use Rattle.term_value.specs.ReadTrees.{variable, tree_of}
 use Rattle.term_value.specs.ReadTrees as read_trees
-use Rattle.term_layers.specs.Scoped.{target_names, segment_names, IsScoped, AreScoped, AreSegmentsScoped}
+use Rattle.term_layers.specs.Scoped.{target_names, segment_names, IsScoped, AreSegmentsScoped}
 use Rattle.term_layers.proofs.Readings.{expr_read, segment_read, pieces_read, optional_read, expr_read-Var, segment_read-parts}
 use Rattle.module_check.specs.Spots.{place_of, shown, size_scope}
 use Rattle.module_check.proofs.Chained.{found_joined}
@@ -40,7 +40,7 @@ use Rattle.module_check.proofs.Spots.{Contains-head, Contains-tail, none_in, onl
 use Rattle.module_check.proofs.Standing.{known_found, a_size_scope}
 use Rattle.module_laws.specs.Variables.{expr_spans, segment_spans}
 use Rattle.module_laws.proofs.VariableForms.{in_segments, in_size, expr-Var, segment-of}
-use Rattle.scope_laws.proofs.Numbering.{Numbering, number, reader, Covers, BoundAt, covers_moved, target_number, target_covers, target_comes}
+use Rattle.scope_laws.proofs.Numbering.{Numbering, number, reader, Covers, BoundAt, target_number, target_covers, target_comes}
 use Rattle.scope_laws.proofs.Known.{Free, Grows, grows_none, grows_then, grows_moved}
 use Rattle.scope_laws.proofs.SpeltForms.{OfSome}
 
@@ -66,9 +66,10 @@ named (a ∷ bs) b h = elim (Contains-append_cases (a ∷ []) bs b h) [
 shown_found : (known left : List Bound) → ((name : List ℕ) → IsKnown left name → IsKnown known name) → (name : List ℕ) (c : Span) →
     Found (map (λ b. record { name = b.name; at = place_of known b.name b.at }) left) name c → IsKnown left name × Found known name c
 shown_found known [] has name c h = absurd h
-shown_found known (b ∷ left) has name c (inl k) =
-    (subst (λ (n : List ℕ). IsKnown (b ∷ left) n) k.0 (Contains-head b.name (names left)),
-    subst (λ (n : List ℕ). Found known n c) k.0 (subst (λ (z : Span). Found known b.name z) k.1 (known_found known b.name b.at (has b.name (Contains-head b.name (names left))))))
+shown_found known (b ∷ left) has name c (inl k) = (
+  subst (λ (n : List ℕ). IsKnown (b ∷ left) n) k.0 (Contains-head b.name (names left)),
+  subst (λ (n : List ℕ). Found known n c) k.0 (subst (λ (z : Span). Found known b.name z) k.1 (known_found known b.name b.at (has b.name (Contains-head b.name (names left))))),
+)
 shown_found known (b ∷ left) has name c (inr k) =
     let rest = shown_found known left (λ n m. has n (Contains-tail b.name (names left) n m)) name c k.1 in
     (Contains-tail b.name (names left) name rest.0, rest.1)
@@ -127,12 +128,14 @@ module _ (w : Numbering) where
   own_of e (O.Unary at op ys) h = inr (
     ap (λ z. (vars_of z).own) h ∙ ap (λ z. z.own) (fold-roll-Expr Vars (List Bound) Row (List (List ℕ)) (List (List ℕ)) (Unit {0}) (List (List ℕ)) Vars expr_layer pattern_layer qual_layer alt_layer branch_layer guard_layer item_layer segment_layer (O.Unary at op ys)),
     ap (λ z. target_names (expr_read (reader w) z).target) h
-    ∙ ap (λ (z : Read). target_names z.target) (fold-roll-Expr Read tree.Pattern Qualifier r.Branch r.Branch tree.Guard Line (List Piece) (read_trees.expr_layer (reader w)) (read_trees.pattern_layer (reader w)) read_trees.qual_layer read_trees.alt_layer read_trees.branch_layer read_trees.guard_layer read_trees.item_layer read_trees.segment_layer (O.Unary at op ys))
-    ∙ signed_none op (target_of (map (expr_read (reader w)) ys)))
+        ∙ ap (λ (z : Read). target_names z.target) (fold-roll-Expr Read tree.Pattern Qualifier r.Branch r.Branch tree.Guard Line (List Piece) (read_trees.expr_layer (reader w)) (read_trees.pattern_layer (reader w)) read_trees.qual_layer read_trees.alt_layer read_trees.branch_layer read_trees.guard_layer read_trees.item_layer read_trees.segment_layer (O.Unary at op ys))
+        ∙ signed_none op (target_of (map (expr_read (reader w)) ys)),
+  )
   own_of e v h = inr (
     ap (λ z. (vars_of z).own) h ∙ ap (λ z. z.own) (fold-roll-Expr Vars (List Bound) Row (List (List ℕ)) (List (List ℕ)) (Unit {0}) (List (List ℕ)) Vars expr_layer pattern_layer qual_layer alt_layer branch_layer guard_layer item_layer segment_layer v),
     ap (λ z. target_names (expr_read (reader w) z).target) h
-    ∙ ap (λ (z : Read). target_names z.target) (fold-roll-Expr Read tree.Pattern Qualifier r.Branch r.Branch tree.Guard Line (List Piece) (read_trees.expr_layer (reader w)) (read_trees.pattern_layer (reader w)) read_trees.qual_layer read_trees.alt_layer read_trees.branch_layer read_trees.guard_layer read_trees.item_layer read_trees.segment_layer v))
+        ∙ ap (λ (z : Read). target_names z.target) (fold-roll-Expr Read tree.Pattern Qualifier r.Branch r.Branch tree.Guard Line (List Piece) (read_trees.expr_layer (reader w)) (read_trees.pattern_layer (reader w)) read_trees.qual_layer read_trees.alt_layer read_trees.branch_layer read_trees.guard_layer read_trees.item_layer read_trees.segment_layer v),
+  )
 
   wants : (e : Expr) → IsVariable e ⊎ IsNone e
   wants e = own_of e (out-Expr e) (sym (roll-out-Expr e))
@@ -247,7 +250,7 @@ module _ (w : Numbering) where
         let n : ℕ = number w v.at in
         let size = optional_read (reader w) sg.size in
         let is : segment_read (reader w) sg ≡ piece size sg.specs (variable n) ∷ [] =
-            segment_read-parts (reader w) sg ∙ ap (λ (z : Read). pieces z size sg.specs) (ap (expr_read (reader w)) v.is ∙ expr_read-Var (reader w) v.at v.name) in
+        segment_read-parts (reader w) sg ∙ ap (λ (z : Read). pieces z size sg.specs) (ap (expr_read (reader w)) v.is ∙ expr_read-Var (reader w) v.at v.name) in
         let fine : SizeIsFine seen size = size_fine X s on last sg seen k ne st see sg.size refl h.1 in
         record {
           names = n ∷ [];
@@ -327,10 +330,11 @@ module _ (w : Numbering) where
       let one = step_at X sg h.0 k on ne bs os left (here_at bs os left on sg sgs at) known seen c see in
       let rest = segments_walk X sgs h.1 k on ne (bs ++ own) os (left ++ own) (one.names ++ known) (one.names ++ seen) (past_at bs os left on sg sgs at) one.grows.covers one.sees in
       let behind : List Piece = pieces_read (reader w) sgs in
-      let grown = grows_then w bs own (segment_targets sgs) known one.names (segment_names (segments behind)) (segment_spans sg) (in_segments sgs) one.grows rest.1 in
-      (one.front.scoped behind rest.0,
-      grows_moved w bs (own ++ segment_targets sgs) (own ++ segment_targets sgs) known (one.names ++ segment_names (segments behind)) (segment_names (segments (segment_read (reader w) sg ++ behind))) (segment_spans sg ++ in_segments sgs) (segment_spans sg ++ in_segments sgs)
-      refl (sym (one.front.named behind)) refl grown)
+      let grown = grows_then w bs own (segment_targets sgs) known one.names (segment_names (segments behind)) (segment_spans sg) (in_segments sgs) one.grows rest.1 in (
+        one.front.scoped behind rest.0,
+        grows_moved w bs (own ++ segment_targets sgs) (own ++ segment_targets sgs) known (one.names ++ segment_names (segments behind)) (segment_names (segments (segment_read (reader w) sg ++ behind))) (segment_spans sg ++ in_segments sgs) (segment_spans sg ++ in_segments sgs)
+            refl (sym (one.front.named behind)) refl grown,
+      )
 
   pub pattern_segments : (X : Type 0) (sgs : List Segment) → AllByRecursion (SegmentWalks X) sgs → X → (on : SideUse) → on ≢ side.Build → (bs os : List Bound) (known seen : List ℕ) →
       SegmentsAt bs os [] on sgs → Covers w bs known → Covers w os seen →

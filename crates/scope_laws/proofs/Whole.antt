@@ -1,5 +1,5 @@
 -- An accepted module that was read is scoped, and no run of it meets an unbound variable.
-use Rattle.std.proofs.Common.{◌≡◌, ℕ, List, [], ◌∷◌, ◌++◌, map, None, refl, ap, subst}
+use Rattle.std.proofs.Common.{ℕ, List, [], ◌∷◌, ◌++◌, map, refl, subst}
 use Rattle.std.specs.List.{All, AllByRecursion, Contains, zip}
 use Rattle.std.proofs.lemmas.List.Elements.{All-nil, All-cons, All-contains, All-from_recursion}
 use Rattle.erl_syntax.specs.Bindings.{targets_of}
@@ -12,13 +12,9 @@ use Rattle.erl_syntax.specs.declared.module.Clause.{Clause}
 use Rattle.erl_syntax.specs.declared.module.Function.{Function}
 use Rattle.erl_syntax.specs.declared.module.Module.{Module}
 use Rattle.erl_syntax.specs.declared.span.Span.{Span}
-use Rattle.term_value.specs.Local.{At, Course}
-use Rattle.term_value.specs.Machine.{Process, Running, start_of}
+use Rattle.term_value.specs.Machine.{Running, start_of}
 use Rattle.term_value.specs.Read.{patterns}
 use Rattle.term_value.specs.ReadTrees.{function_clauses, function_of, module_of, pattern_of, reading}
-use Rattle.term_value.specs.Tree.{Var}
-use Rattle.term_value.specs.Tree as tree
-use Rattle.term_layers.specs.Layers.{plug}
 use Rattle.term_layers.specs.Scoped.{patterns_names, AreClausesScoped, IsFunctionScoped, IsCourseScoped, IsProcessScoped}
 use Rattle.term_layers.proofs.ScopedLaws.{none_unbound}
 use Rattle.term_layers.proofs.ScopedMachine.{start_scoped, leads_scoped}
@@ -37,7 +33,7 @@ use Rattle.scope_laws.proofs.Numbering.{Differ, Numbering, reader}
 use Rattle.scope_laws.proofs.Patterns as pats
 use Rattle.scope_laws.proofs.Patterns.{PatternWalks, patterns_walk}
 use Rattle.scope_laws.proofs.Segments.{SegmentWalks, Walks}
-use Rattle.scope_laws.proofs.SpeltForms.{C, Cs, Properties, functions_have}
+use Rattle.scope_laws.proofs.SpeltForms.{Cs, Properties, functions_have}
 
 -- what is shown of each kind of part, form by form
 properties : Numbering → Properties
@@ -100,14 +96,14 @@ module _ (w : Numbering) where
       let hc = among c (Contains-head c cs) in
       let names : List ℕ = patterns_names (patterns (map (pattern_of (reader w)) c.patterns)) in
       let one = patterns_walk w c.patterns h.0.0 [] [] [] []
-          (λ front pt back e. record { scope = past_patterns front (to_match nothing_known); knows = refl; sees = refl; stands = head c front pt back hc e })
-          (covers_none w []) (covers_none w []) in
+      (λ front pt back e. record { scope = past_patterns front (to_match nothing_known); knows = refl; sees = refl; stands = head c front pt back hc e })
+      (covers_none w []) (covers_none w []) in
       let guard = h.0.1 (targets_of c.patterns) (names ++ [])
-          (λ tests y ht hy. record { scope = in_guard (past_patterns c.patterns nothing_known); knows = refl; guards = refl; stands = head_guard c tests y hc ht hy }) one.1.covers in
+      (λ tests y ht hy. record { scope = in_guard (past_patterns c.patterns nothing_known); knows = refl; guards = refl; stands = head_guard c tests y hc ht hy }) one.1.covers in
       let whole : Free w [] (clause_spans c) = record { apart = apart_none w (clause_spans c); differ = differ_left (clause_spans c) (in_clauses cs) d } in
       let rest : Free w (names ++ []) (guard_spans c.guard ++ in_items c.body) = free_after w [] names (in_patterns c.patterns) (guard_spans c.guard ++ in_items c.body) whole one.1.comes in
       let body = body_scoped w (targets_of c.patterns) c.body h.0.2 (record { scope = past_patterns c.patterns nothing_known; knows = refl; stands = head_body c hc }) (names ++ []) one.1.covers
-          (free_right w (names ++ []) (guard_spans c.guard) (in_items c.body) rest) in
+      (free_right w (names ++ []) (guard_spans c.guard) (in_items c.body) rest) in
       (one.0, guard, body, clauses_walk cs h.1 (λ k m. among k (Contains-tail c cs k m)) (differ_right (clause_spans c) (in_clauses cs) d))
 
 module _ (text : List ℕ) (m : Module) (r : Reads text m) (accepted : IsAccepted m) where
