@@ -17,7 +17,7 @@ use Rattle.term_value.specs.Read.{patterns}
 use Rattle.term_value.specs.ReadTrees.{function_clauses, function_of, module_of, pattern_of, reading}
 use Rattle.term_layers.specs.Scoped.{patterns_names, AreClausesScoped, IsFunctionScoped, IsCourseScoped, IsProcessScoped}
 use Rattle.term_layers.proofs.ScopedLaws.{none_unbound}
-use Rattle.term_layers.proofs.ScopedMachine.{start_scoped, leads_scoped}
+use Rattle.term_layers.proofs.ScopedMachine.{start_scoped, leads_scoped, contracts_scoped}
 use Rattle.module_check.proofs.Spots.{Contains-head, Contains-tail}
 use Rattle.module_laws.specs.Variables.{clause_spans, function_spans, guard_spans}
 use Rattle.module_laws.proofs.ModuleVariables.{variables_rise}
@@ -135,7 +135,8 @@ machines_are_scoped text m uses reductions n entries r accepted numbered leads =
     leads_scoped (start_of (module_of uses m) reductions) n entries leads (start_scoped (module_of uses m) reductions (accepted_is_scoped text m uses r accepted numbered))
 
 pub none_meets_unbound : NoneMeetsUnbound
-none_meets_unbound text m uses reductions n entries local unseen layers variable r accepted numbered leads among is =
+none_meets_unbound text m uses reductions n entries l k unseen cost made layers variable r accepted numbered leads among run is =
     let scoped = machines_are_scoped text m uses reductions n entries r accepted numbered leads in
-    let process : IsCourseScoped local.course = All-contains IsProcessScoped n.processes (Running local unseen) scoped.processes among in
-    none_unbound layers variable (subst IsCourseScoped is process)
+    let process : IsCourseScoped l.course = All-contains IsProcessScoped n.processes (Running l unseen) scoped.processes among in
+    let later : IsCourseScoped k.course = contracts_scoped (module_of uses m) l k cost made run (accepted_is_scoped text m uses r accepted numbered) process in
+    none_unbound layers variable (subst IsCourseScoped is later)

@@ -12,7 +12,7 @@ use Rattle.erl_syntax.specs.declared.span.Span.{Span}
 use Rattle.term_layers.specs.Layers.{Layer, plug}
 use Rattle.term_layers.specs.Scoped.{IsMachineScoped, IsModuleScoped}
 use Rattle.term_value.specs.CallLaws.{trees_of}
-use Rattle.term_value.specs.Local.{At, Local}
+use Rattle.term_value.specs.Local.{At, Contracts, Local}
 use Rattle.term_value.specs.Machine.{Leads, Machine, Running, start_of}
 use Rattle.term_value.specs.ReadTrees.{module_of, reading, tree_of}
 use Rattle.term_value.specs.Tree.{Prim, Table, Var, All as Evaluated}
@@ -36,8 +36,8 @@ abbrev pub MachinesAreScoped : Type 0
 MachinesAreScoped = (text : List ℕ) (m : Module) (uses : List (List VarUse)) (reductions : ℕ) (n : Machine) (entries : List Entry) →
     Reads text m → IsAccepted m → AreNumbered m.functions uses → Leads (start_of (module_of uses m) reductions) entries n → IsMachineScoped n
 
--- and in no process is a variable open: none is met without its value.
+-- and no variable is open in a process, nor in what it contracts to before its next entry: none is met without its value.
 abbrev pub NoneMeetsUnbound : Type 0
-NoneMeetsUnbound = (text : List ℕ) (m : Module) (uses : List (List VarUse)) (reductions : ℕ) (n : Machine) (entries : List Entry) (local : Local) (unseen : List Value) (layers : List Layer) (variable : ℕ) →
+NoneMeetsUnbound = (text : List ℕ) (m : Module) (uses : List (List VarUse)) (reductions : ℕ) (n : Machine) (entries : List Entry) (l k : Local) (unseen : List Value) (cost made : ℕ) (layers : List Layer) (variable : ℕ) →
     Reads text m → IsAccepted m → AreNumbered m.functions uses → Leads (start_of (module_of uses m) reductions) entries n →
-    Contains n.processes (Running local unseen) → local.course ≡ At (plug layers (Var variable)) → ⊥
+    Contains n.processes (Running l unseen) → Contracts (module_of uses m) l cost made k → k.course ≡ At (plug layers (Var variable)) → ⊥
