@@ -2,3 +2,4 @@ pub mod Slots
 pub mod Kept
 pub mod Linking
 pub mod Written
+pub mod Out

@@ -1,9 +1,12 @@
 //! Cells.
 
 ghost use Rattle.std.specs.Prelude.{◌≡◌, ◌↔◌, IsTrue};
-ghost use Rattle.off_heap.specs.Cells.{stored_bits, IsLatest};
+ghost use Rattle.write_room.specs.Rooms.{IsTight};
+ghost use Rattle.off_heap.specs.Cells.{stored_bits, room_of, IsRoom, IsLatest};
+ghost use Rattle.off_heap.specs.Writing.{holding};
 
 use bits_value::{Bits, Frozen};
+use std::alloc::Global;
 use write_room::Room;
 
 /// What a cell's bytes lie in.
@@ -46,6 +49,20 @@ impl Cell {
         match &self.storage {
             Storage::Room(room) => !self.noted && off == 0 && len == room.used(),
             Storage::Still(_) => false,
+        }
+    }
+
+    /// Takes the room out. Until another is put in, the cell has no bits. Takes no memory.
+    pub(crate) fn take_room(&mut self, alloc: Global) -> Room
+        requires { IsRoom self.old.storage }
+        ensures back { self.old ≡ holding self.new result }
+        ensures next { self.new.next ≡ self.old.next }
+        ensures tight { IsTight (room_of self.new.storage) }
+    {
+        let nothing = Storage::Still(Frozen::of(Vec::new(alloc), 0));
+        match std::mem::replace(&mut self.storage, nothing) {
+            Storage::Room(room) => room,
+            Storage::Still(_) => unreachable!(),
         }
     }
 }

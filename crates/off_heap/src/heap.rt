@@ -1,11 +1,12 @@
 //! The heap.
 
-ghost use Rattle.std.specs.Prelude.{◌≡◌, ℕ, ◌+◌, ◌≤◌, ◌≢◌, ◌^◌, [], length, take, drop, false, None, IfOk, IfErr, OnErr, IsTrue, ◌↔◌, IsSomeAnd};
+ghost use Rattle.std.specs.Prelude.{◌≡◌, ℕ, ◌+◌, ◌≤◌, ◌≢◌, ◌^◌, [], length, take, drop, false, None, IfOk, IfErr, OnErr, IsTrue, ◌↔◌, IsSome, IsSomeAnd};
 ghost use Rattle.bits_value.specs.declared.TheConstants.{MAX_BITS};
 ghost use Rattle.bit_store.specs.Stores.{Keeps};
 ghost use Rattle.write_room.specs.Rooms.{IsTight};
-ghost use Rattle.off_heap.specs.Cells.{cell_at, count_of, stored_bits, Valid, shown, room_of, AllTight, Latest, NoLatest, OnlyCell, SameNumbers};
+ghost use Rattle.off_heap.specs.Cells.{cell_at, count_of, stored_bits, Valid, shown, room_of, IsRoom, AllTight, Latest, NoLatest, OnlyCell, SameNumbers};
 ghost use Rattle.off_heap.specs.Lists.{end_of_list};
+ghost use Rattle.off_heap.specs.Writing.{filled};
 
 use crate::cell::{Cell, Storage};
 use crate::reference::BitRef;
@@ -13,6 +14,7 @@ use bits_value::{Bits, Frozen, SmallBits};
 use slab::Slab;
 use std::alloc::{AllocError, AllocFailed, Global};
 use std::marker::Model;
+use write_room::Room;
 
 /// Past the last cell of the list.
 pub(crate) const END: u32 = 4_294_967_295;
@@ -162,6 +164,32 @@ impl Heap {
                 Ok(key as u32)
             }
             Err(_) => Err(AllocError),
+        }
+    }
+
+    /// Takes a cell's room out. Until it is put back, the cell has no bits. Takes no memory.
+    pub(crate) fn take_room(&mut self, cell: u32) -> Room
+        requires { IsSomeAnd (cell_at self.old.cells cell) (λ found. IsRoom found.storage) }
+        ensures back { self.old ≡ record self.new { cells = filled self.new.cells cell result } }
+        ensures there { IsSome (cell_at self.new.cells cell) }
+        ensures tight { IsTight result }
+    {
+        let alloc = self.alloc;
+        match self.cells.get_mut(cell as usize) {
+            Some(found) => found.take_room(alloc),
+            None => unreachable!(),
+        }
+    }
+
+    /// Puts a room into a cell.
+    pub(crate) fn put_room(&mut self, cell: u32, room: Room)
+        requires there { IsSome (cell_at self.old.cells cell) }
+        requires tight { IsTight room }
+        ensures { self.new ≡ record self.old { cells = filled self.old.cells cell room } }
+    {
+        match self.cells.get_mut(cell as usize) {
+            Some(found) => found.storage = Storage::Room(room),
+            None => unreachable!(),
         }
     }
 }

@@ -1,14 +1,14 @@
 //! Bitstrings made of pieces: new ones, and appends.
 
-ghost use Rattle.std.specs.Prelude.{◌≡◌, ◌+◌, ◌*◌, ◌≤◌, ◌<◌, ◌++◌, [], length, All, None, IfOk, OnOk, IfErr, OnErr, MatchOption};
+ghost use Rattle.std.specs.Prelude.{◌≡◌, ◌+◌, ◌*◌, ◌≤◌, ◌<◌, ◌++◌, [], length, All, None, IfOk, OnOk, IfErr, OnErr, IsSomeAnd, MatchOption};
 ghost use Rattle.bits_value.specs.Bits.{all_bits};
 ghost use Rattle.bits_value.specs.Ledger.{ticked};
 ghost use Rattle.bits_value.specs.declared.TheConstants.{MAX_BITS};
 ghost use Rattle.bit_store.specs.Pieces.{piece_bits, pieces_bits, HasPiece, IsInside};
 ghost use Rattle.bit_store.specs.Stores.{Keeps, RoseBy, Refuses};
-ghost use Rattle.write_room.specs.Rooms.{HasTaken, IsTight};
-ghost use Rattle.off_heap.specs.Cells.{cell_at, bits_in, Valid, shown, IsSmall, Latest, OnlyCell, InNewCell};
-ghost use Rattle.off_heap.specs.Writing.{with_room, IsThere, IsOwn, IsOther};
+ghost use Rattle.write_room.specs.Rooms.{HasTaken, spare_of};
+ghost use Rattle.off_heap.specs.Cells.{cell_at, bits_in, Valid, shown, IsSmall, IsRoom, room_in, room_under, Latest, InPlace, InNewCell, RefusesIn};
+ghost use Rattle.off_heap.specs.Writing.{with_room, IsThere, IsOwn, IsOther, HasExtended};
 
 use crate::cell::Storage;
 use crate::heap::Heap;
@@ -117,19 +117,31 @@ impl Heap {
         ensures valid { IfOk result (λ made. Valid self.new.cells made) }
         ensures shows { IfOk result (λ made. shown self.new.cells made ≡ shown self.old.cells to.now ++ pieces_bits (shown self.old.cells) pieces.now) }
         ensures latest { IfOk result (λ made. Latest self.new.cells made) }
+        ensures in_place { Latest self.old.cells to.now → IfOk result (λ made. InPlace self.old.cells self.new.cells to.now made) }
         ensures in_new_room { (Latest self.old.cells to.now → ⊥) → IfOk result (λ made. InNewCell self.old.cells self.new.cells made) }
         ensures moved { IfOk result (λ made. RoseBy (length (shown self.new.cells made)) steps.old.moved steps.new.moved) }
+        ensures moved_in_place { Latest self.old.cells to.now → IfOk result (λ made. HasTaken (room_under self.old.cells to.now) (room_under self.new.cells made) steps.old.moved steps.new.moved (length (pieces_bits (shown self.old.cells) pieces.now))) }
         ensures moved_to_new { (Latest self.old.cells to.now → ⊥) → IfOk result (λ made. steps.new.moved ≡ ticked steps.old.moved (length (shown self.new.cells made))) }
         ensures refused { IfErr result (λ fault. Refuses (length (shown self.old.cells to.now) + length (pieces_bits (shown self.old.cells) pieces.now)) fault) }
+        ensures refused_in_place { Latest self.old.cells to.now → IfErr result (λ fault. RefusesIn (room_under self.old.cells to.now) (length (pieces_bits (shown self.old.cells) pieces.now)) fault) }
         ensures stands { OnErr result (self.new ≡ self.old) }
         ensures unmoved { OnErr result (steps.new ≡ steps.old) }
     {
         match self.added_bits(to, pieces) {
             None => Err(StoreFault::TooLong),
-            Some(added) => match self.append_copy(to, pieces, added, steps) {
-                Ok(made) => Ok(made),
-                Err(_) => Err(StoreFault::NoMemory),
-            },
+            Some(added) => {
+                if self.latest(to) {
+                    match self.append_in_place(to, pieces, added, steps) {
+                        Ok(made) => Ok(made),
+                        Err(_) => Err(StoreFault::NoMemory),
+                    }
+                } else {
+                    match self.append_copy(to, pieces, added, steps) {
+                        Ok(made) => Ok(made),
+                        Err(_) => Err(StoreFault::NoMemory),
+                    }
+                }
+            }
         }
     }
 
@@ -147,6 +159,78 @@ impl Heap {
                 } else {
                     Some(added)
                 }
+            }
+        }
+    }
+
+    /// Adds the pieces, of `added` bits together, behind the latest result of a room.
+    fn append_in_place(
+        &mut self,
+        to: &BitRef,
+        pieces: &[Piece<BitRef>],
+        added: u32,
+        steps: &mut Steps,
+    ) -> Result<BitRef, AllocError>
+        requires latest { Latest self.old.cells to.now }
+        requires valid { All (HasPiece (Valid self.old.cells)) pieces.now }
+        requires inside { All (IsInside (shown self.old.cells)) pieces.now }
+        requires added { added ≡ length (pieces_bits (shown self.old.cells) pieces.now) }
+        requires short { length (shown self.old.cells to.now) + added ≤ MAX_BITS }
+        ensures keeps { Keeps shown Valid self.old.cells self.new.cells }
+        ensures valid { IfOk result (λ made. Valid self.new.cells made) }
+        ensures shows { IfOk result (λ made. shown self.new.cells made ≡ shown self.old.cells to.now ++ pieces_bits (shown self.old.cells) pieces.now) }
+        ensures latest { IfOk result (λ made. Latest self.new.cells made) }
+        ensures in_place { IfOk result (λ made. InPlace self.old.cells self.new.cells to.now made) }
+        ensures taken { IfOk result (λ made. HasTaken (room_under self.old.cells to.now) (room_under self.new.cells made) steps.old.moved steps.new.moved added) }
+        ensures spare { OnErr result (spare_of (room_under self.old.cells to.now) < added) }
+        ensures stands { OnErr result (self.new ≡ self.old) }
+        ensures unmoved { OnErr result (steps.new ≡ steps.old) }
+    {
+        match to {
+            BitRef::Small(_) => unreachable!(),
+            BitRef::Part { cell, .. } => {
+                let len = self.extend_room(*cell, pieces, added, steps)?;
+                Ok(BitRef::Part {
+                    cell: *cell,
+                    off: 0,
+                    len,
+                })
+            }
+        }
+    }
+
+    /// Adds the pieces, of `added` bits together, to a cell's room. The result is how many bits it has then.
+    fn extend_room(
+        &mut self,
+        cell: u32,
+        pieces: &[Piece<BitRef>],
+        added: u32,
+        steps: &mut Steps,
+    ) -> Result<u32, AllocError>
+        requires room { IsSomeAnd (cell_at self.old.cells cell) (λ found. IsRoom found.storage) }
+        requires valid { All (HasPiece (Valid self.old.cells)) pieces.now }
+        requires inside { All (IsInside (shown self.old.cells)) pieces.now }
+        requires added { added ≡ length (pieces_bits (shown self.old.cells) pieces.now) }
+        requires short { length (bits_in (cell_at self.old.cells cell)) + added ≤ MAX_BITS }
+        ensures keeps { Keeps shown Valid self.old.cells self.new.cells }
+        ensures extended { OnOk result (HasExtended self.old.cells self.new.cells cell (pieces_bits (shown self.old.cells) pieces.now)) }
+        ensures size { IfOk result (λ len. len ≡ length (bits_in (cell_at self.new.cells cell))) }
+        ensures taken { OnOk result (HasTaken (room_in (cell_at self.old.cells cell)) (room_in (cell_at self.new.cells cell)) steps.old.moved steps.new.moved added) }
+        ensures spare { OnErr result (spare_of (room_in (cell_at self.old.cells cell)) < added) }
+        ensures stands { OnErr result (self.new ≡ self.old) }
+        ensures unmoved { OnErr result (steps.new ≡ steps.old) }
+    {
+        let mut room = self.take_room(cell);
+        match room.make_room(added, steps) {
+            Ok(()) => {
+                self.write_pieces(Some(cell), &mut room, pieces, steps);
+                let len = room.used();
+                self.put_room(cell, room);
+                Ok(len)
+            }
+            Err(_) => {
+                self.put_room(cell, room);
+                Err(AllocError)
             }
         }
     }
