@@ -3,3 +3,4 @@ pub mod Kept
 pub mod Linking
 pub mod Written
 pub mod Out
+pub mod Walked

@@ -125,21 +125,34 @@ RefusesIn room count TooLong = MAX_BITS < length room.bits + count
 RefusesIn room count NoMemory = spare_of room < count
 
 -- ---- marks
-abbrev pub is_marked : Option Cell → Bool
-is_marked None = false
-is_marked (Some cell) = cell.marked
+-- the same cell without a mark
+abbrev pub HasNoMark : Cell → Option Cell → Type 0
+HasNoMark cell new = IsSomeAnd new (λ other. (other.storage ≡ cell.storage) × (other.noted ≡ cell.noted) × (other.marked ≡ false))
 
--- the number of the cell that a reference names
-abbrev pub Names : BitRef → ℕ → Type 0
-Names (Small bits) n = ⊥
-Names (Part m off len) n = n ≡ m
+-- each cell stays, without a mark
+abbrev pub ClearedCell : Option Cell → Option Cell → Type 0
+ClearedCell None new = new ≡ None
+ClearedCell (Some cell) new = HasNoMark cell new
 
--- the same cell, but for its mark and its place in the list
-abbrev pub SameCell : Option Cell → Option Cell → Type 0
-SameCell None new = new ≡ None
-SameCell (Some cell) new = IsSomeAnd new (λ other. (other.storage ≡ cell.storage) × (other.noted ≡ cell.noted))
-
--- a marked cell stays as it was, without its mark, and any other is given up
+-- a marked cell stays, without its mark, and any other is given up
 abbrev pub SweptCell : Option Cell → Option Cell → Type 0
 SweptCell None new = new ≡ None
-SweptCell (Some cell) new = (cell.marked ≡ true → SameCell (Some cell) new × (is_marked new ≡ false)) × (cell.marked ≡ false → new ≡ None)
+SweptCell (Some cell) new = (cell.marked ≡ true → HasNoMark cell new) × (cell.marked ≡ false → new ≡ None)
+
+abbrev pub with_mark : Option Cell → Option Cell
+with_mark None = None
+with_mark (Some cell) = Some (record cell { marked = true })
+
+-- the cell that a reference names has its mark, and all else is as it was
+abbrev pub Marks : List (Option Cell) → List (Option Cell) → BitRef → Type 0
+Marks old new (Small bits) = new ≡ old
+Marks old new (Part n off len) = (cell_at new n ≡ with_mark (cell_at old n)) × OnlyCell n old new
+
+-- a small reference, or one to a marked cell
+abbrev pub HasMark : List (Option Cell) → BitRef → Type 0
+HasMark cells (Small bits) = Unit {0}
+HasMark cells (Part n off len) = IsSomeAnd (cell_at cells n) (λ cell. cell.marked ≡ true)
+
+-- each reference to a marked cell that was valid is valid, and shows what it showed
+abbrev pub KeepsMarked : List (Option Cell) → List (Option Cell) → Type 0
+KeepsMarked old new = (of : BitRef) → Valid old of → HasMark old of → Valid new of × (shown new of ≡ shown old of)

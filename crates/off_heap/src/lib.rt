@@ -7,7 +7,9 @@ mod cell;
 mod heap;
 mod reference;
 mod store;
+mod sweeping;
 mod writing;
 
 pub use heap::Heap;
 pub use reference::BitRef;
+pub use sweeping::Swept;
