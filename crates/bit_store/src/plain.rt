@@ -30,6 +30,8 @@ impl Store<Window> for PlainStore {
 
     ghost has = { λ store of. length of ≤ MAX_BITS };
 
+    ghost grows = { λ store of other. ⊥ };
+
     fn look<'a>(&'a self, of: &'a Window) -> Bits<'a> {
         of.bits()
     }

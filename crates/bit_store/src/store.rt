@@ -25,6 +25,9 @@ pub trait Store<R> {
     /// Whether it has this reference.
     ghost has: { Self → R → Type 0 };
 
+    /// Whether what is appended to the second reference is written in place, behind bits that the first names too.
+    ghost grows: { Self → R → R → Type 0 };
+
     /// The bits of a reference.
     fn look<'a>(&'a self, of: &'a R) -> Bits<'a>
         requires { has self.now of.now }
@@ -63,7 +66,8 @@ pub trait Store<R> {
     /// Notes that a reference is read from now on, so that it is no longer appended to in place. Takes no memory and moves no bit.
     fn still(&mut self, of: &R)
         requires { has self.old of.now }
-        ensures { Keeps shown has self.old self.new };
+        ensures keeps { Keeps shown has self.old self.new }
+        ensures still { (other : R) → grows self.new of.now other → ⊥ };
 
     /// A reference that it has is no longer than a bitstring may be.
     ghost short: { (store : Self) (of : R) → has store of → length (shown store of) ≤ MAX_BITS };

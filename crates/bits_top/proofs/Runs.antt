@@ -3,28 +3,20 @@ use Rattle.std.proofs.Common.{◌≡◌, ℕ, List, All, sym, ◌∙◌, subst, 
 use Rattle.std.proofs.lemmas.List.Elements.{All-weaker}
 use Rattle.copy_machine.specs.Running.{IsOwnEntry, IsOwnRun}
 use Rattle.copy_machine.specs.Replaying.{Replays}
-use Rattle.term_value.specs.Laws.{OutcomeReports}
+use Rattle.term_laws.specs.Laws.{OutcomeReports}
 use Rattle.term_value.specs.Machine.{start_of}
-use Rattle.term_value.specs.Orders.{IsInRange, IsOrderText, order_text}
+use Rattle.term_value.specs.Orders.{IsInRange, IsOrderText, SharesNothing, order_text}
 use Rattle.term_value.specs.Outcomes.{outcome_text}
 use Rattle.term_value.specs.Tree.{Module}
 use Rattle.term_value.specs.declared.entry.Entry.{Entry}
-use Rattle.term_value.specs.declared.entry.Entry.TheVariants.{Sent, Saw, Shown, Started, Full, Ended, Stopped, Gone}
 use Rattle.term_value.specs.declared.outcome.Outcome.{Outcome}
 use Rattle.command_answers.specs.Answer.{Port, AnswersRan, Reports, Took}
-use Rattle.command_answers.specs.Whole.{IsReplayOf, IsRunOf, SharesNothing}
+use Rattle.command_answers.specs.Whole.{IsReplayOf, IsRunOf}
 use Rattle.command_answers.specs.declared.status.Status.{Status}
 use Rattle.command_answers.specs.declared.status.Status.TheVariants as s
 
 unshared : (entry : Entry) → IsOwnEntry entry → SharesNothing entry
-unshared (Gone pid births drops moved) h = h.1
-unshared (Sent from to) h = tt
-unshared (Saw pid n) h = tt
-unshared (Shown pid) h = tt
-unshared (Started pid child) h = tt
-unshared (Full pid) h = tt
-unshared (Ended pid) h = tt
-unshared (Stopped pid) h = tt
+unshared entry h = h.1
 
 -- the report and the text of a replay
 pub replay_texts : OutcomeReports → (code : Module) (reductions : ℕ) (outcome : Outcome) (entries : List Entry) (order report : List ℕ) → Replays (start_of code reductions) entries outcome → IsOrderText order entries →

@@ -15,7 +15,8 @@ use itoa::Buffer;
 use module_check::Checked;
 use report_text::{OrderFault, read_order};
 use std::alloc::{AllocError, Global};
-use term_value::{Entry, outcome_reports};
+use term_laws::outcome_reports;
+use term_value::Entry;
 
 // The most bytes that an order's text may have.
 const LONGEST_ORDER: u32 = 268_435_456;

@@ -11,7 +11,7 @@ use copy_run::run_module;
 use io_ports::{Sink, Source};
 use module_check::Checked;
 use std::alloc::{AllocError, Global};
-use term_value::outcome_reports;
+use term_laws::outcome_reports;
 
 // The texts of a run.
 #[derive(Debug, Drop)]

@@ -14,7 +14,7 @@ use Rattle.code_rows.specs.declared.gathered.Collecting.TheVariants.{Goes, Limit
 -- what has been collected
 abbrev pub got_of : Gathered → t.Got
 got_of (Items seen) = t.Items (map value seen)
-got_of (Bits bits) = t.Bits bits
+got_of (Bits room) = t.Bits room.bits
 
 -- what a value comes to that is collected, where this is collected behind it
 abbrev pub step_of : Collecting → t.Got → Step Value t.Got
@@ -27,8 +27,3 @@ abbrev pub StaysIfRefused : Collecting → Gathered → Gathered → Type 0
 StaysIfRefused (Goes made) old new = Unit {0}
 StaysIfRefused Limit old new = new ≡ old
 StaysIfRefused BadArg old new = new ≡ old
-
--- a bitstring, or limit
-abbrev pub bits_or_limit : Option (List Bool) → Result
-bits_or_limit (Some bits) = Gives (VBits bits)
-bits_or_limit None = Stops AtLimit

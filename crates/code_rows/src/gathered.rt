@@ -1,29 +1,30 @@
 //! What a comprehension has collected.
 
-ghost use Rattle.std.specs.Prelude.{◌≡◌, ◌++◌, [], IfOk, OnErr};
+ghost use Rattle.std.specs.Prelude.{◌≡◌, IfOk, OnErr};
 ghost use Rattle.term_value.specs.Value.{VBits};
-ghost use Rattle.term_value.specs.Bounds.{within};
 ghost use Rattle.term_value.specs.Step.{collect_by, collected};
 ghost use Rattle.term_value.specs.Terms.{value_of, seen, IsOver};
 ghost use Rattle.code_tree.specs.PlainTerms.{value, IsShort, AnyAtom};
 ghost use Rattle.code_tree.specs.Reading.{nothing_of};
-ghost use Rattle.code_rows.specs.Gathering.{got_of, step_of, StaysIfRefused, bits_or_limit};
+ghost use Rattle.code_rows.specs.Gathering.{got_of, step_of, StaysIfRefused};
 ghost use Rattle.code_rows.specs.declared.gathered.Gathered.TheVariants.{Bits};
 ghost use Rattle.term_value.specs.Tree as t;
 ghost use Rattle.bit_store.specs.Stores.{itself};
 
 use crate::bounded_items::BoundedItems;
-use bit_store::{Piece, PlainStore, Store, StoreFault, Window};
-use bits_value::{Frozen, Steps};
+use bit_store::Window;
+use bits_value::Steps;
 use code_tree::{Collected, PlainTerm};
 use std::alloc::{AllocError, Global};
 use term_value::Term;
+use write_room::{Room, RoomFault};
 
 /// What a comprehension has collected.
 #[derive(Drop)]
 pub enum Gathered {
     Items(BoundedItems),
-    Bits(Window),
+    /// The bits, in a room that grows as they come.
+    Bits(Room),
 }
 
 /// What comes of collecting a value.
@@ -44,14 +45,14 @@ impl Gathered {
     {
         match kind {
             Collected::Items => Ok(Gathered::Items(BoundedItems::new(alloc))),
-            Collected::Bits => Ok(Gathered::Bits(no_bits(alloc)?)),
+            Collected::Bits => Ok(Gathered::Bits(Room::with_len(alloc, 0)?)),
         }
     }
 
     /// The value behind what was collected. A refused one changes nothing.
     ///
-    /// An item takes constant time but for the growth of a buffer; bits are copied, those before them too.
-    pub fn collect(&mut self, alloc: Global, term: PlainTerm) -> Result<Collecting, AllocError>
+    /// An item takes constant time and a bitstring its own length, but for the growth of a buffer.
+    pub fn collect(&mut self, term: PlainTerm) -> Result<Collecting, AllocError>
         ensures is { IfOk result (λ collecting. step_of collecting (got_of self.new) ≡ collect_by (λ got. got) (got_of self.old) (value term)) }
         ensures refused { IfOk result (λ collecting. StaysIfRefused collecting self.old self.new) }
         ensures unchanged { OnErr result (self.new ≡ self.old) }
@@ -64,7 +65,7 @@ impl Gathered {
                     Ok(Collecting::Limit)
                 }
             }
-            Gathered::Bits(bits) => Ok(collect_bits(alloc, bits, term.into_term())?),
+            Gathered::Bits(bits) => Ok(collect_bits(bits, term.into_term())?),
         }
     }
 
@@ -74,57 +75,33 @@ impl Gathered {
     {
         match self {
             Gathered::Items(items) => items.list(alloc),
-            Gathered::Bits(bits) => Ok(PlainTerm::of(Term::Bits(bits))),
+            Gathered::Bits(bits) => whole(alloc, bits),
         }
     }
 }
 
-fn no_bits(alloc: Global) -> Result<Window, AllocError>
-    ensures { IfOk result (λ bits. bits ≡ []) }
-{
-    Window::whole(alloc, Frozen::of(Vec::new(alloc), 0), 0)
-}
-
 // The bits of the term behind the others.
-fn collect_bits(
-    alloc: Global,
-    bits: &mut Window,
-    term: Term<Window>,
-) -> Result<Collecting, AllocError>
+fn collect_bits(bits: &mut Room, term: Term<Window>) -> Result<Collecting, AllocError>
     requires { IsOver IsShort AnyAtom term }
-    ensures is { IfOk result (λ collecting. step_of collecting (t.Bits bits.new) ≡ collect_by (λ got. got) (t.Bits bits.old) (value_of itself term)) }
+    ensures is { IfOk result (λ collecting. step_of collecting (t.Bits bits.new.bits) ≡ collect_by (λ got. got) (t.Bits bits.old.bits) (value_of itself term)) }
     ensures refused { IfOk result (λ collecting. StaysIfRefused collecting (Bits bits.old) (Bits bits.new)) }
     ensures unchanged { OnErr result (bits.new ≡ bits.old) }
 {
     let Term::Bits(behind) = term else {
         return Ok(Collecting::BadArg);
     };
-    match joined(alloc, bits, behind)? {
-        None => Ok(Collecting::Limit),
-        Some(all) => {
-            let made = all.len();
-            *bits = all;
-            Ok(Collecting::Goes { made })
-        }
+    match bits.push(behind.bits(), &mut Steps::new()) {
+        Ok(()) => Ok(Collecting::Goes { made: bits.used() }),
+        Err(RoomFault::TooLong) => Ok(Collecting::Limit),
+        Err(RoomFault::NoMemory) => Err(AllocError),
     }
 }
 
-// Bits and those behind them; None past the bound.
-fn joined(alloc: Global, bits: &Window, behind: Window) -> Result<Option<Window>, AllocError>
-    ensures { IfOk result (λ all. bits_or_limit all ≡ within (VBits (bits.now ++ behind))) }
+// The room's bits as a term.
+fn whole(alloc: Global, room: Room) -> Result<PlainTerm, AllocError>
+    ensures { IfOk result (λ term. value term ≡ VBits room.bits) }
 {
-    let len = behind.len();
-    if bits.len() == 0 {
-        return Ok(Some(behind));
-    }
-    let piece = Piece::Part {
-        of: behind,
-        off: 0,
-        bits: len,
-    };
-    match PlainStore::new(alloc).append(bits, &[piece], &mut Steps::new()) {
-        Ok(all) => Ok(Some(all)),
-        Err(StoreFault::TooLong) => Ok(None),
-        Err(StoreFault::NoMemory) => Err(AllocError),
-    }
+    let len = room.used();
+    let bits = Window::whole(alloc, room.into_frozen(), len)?;
+    Ok(PlainTerm::of(Term::Bits(bits)))
 }

@@ -7,7 +7,7 @@ use Rattle.erl_syntax.specs.declared.module.Function.{Function}
 use Rattle.erl_syntax.specs.declared.module.Module as syntax
 use Rattle.term_value.specs.Machine.{Machine, Leads, IsComplete, applied, all_applied, start_of}
 use Rattle.term_value.specs.Orders.{BadOrder, too_long, no_entry, illegal, incomplete, order_bound}
-use Rattle.term_value.specs.Laws.{OneOrder}
+use Rattle.report_text.specs.Laws.{OneOrder}
 use Rattle.term_value.specs.ReadTrees.{module_of}
 use Rattle.term_value.specs.Tree.{Module}
 use Rattle.term_value.specs.declared.entry.Entry.{Entry}

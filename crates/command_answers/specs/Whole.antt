@@ -2,15 +2,9 @@
 use Rattle.std.specs.Prelude.{◌≡◌, ℕ, List, All}
 use Rattle.term_value.specs.Tree.{Module}
 use Rattle.term_value.specs.Machine.{Machine, Leads, IsComplete, start_of}
-use Rattle.term_value.specs.Orders.{IsOrderText}
+use Rattle.term_value.specs.Orders.{IsOrderText, SharesNothing}
 use Rattle.term_value.specs.Reports as reports
 use Rattle.term_value.specs.declared.entry.Entry.{Entry}
-use Rattle.term_value.specs.declared.entry.Entry.TheVariants.{Gone}
-
--- A process that is gone had no births and no last drops of shared buffers and moved no bits, since no buffer is shared.
-abbrev pub SharesNothing : Entry → Type 0
-SharesNothing (Gone pid births drops moved) = (births ≡ 0) × (drops ≡ 0) × (moved ≡ 0)
-SharesNothing _ = Unit {0}
 
 -- The text of an order of the module's copying machine, legal and complete; the state that it leads to; and the report.
 pub record IsReplayOf (code : Module) (reductions : ℕ) (order report : List ℕ) : Type 0 where

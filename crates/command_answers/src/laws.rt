@@ -2,8 +2,7 @@
 ghost use Rattle.command_answers.specs.Laws.{BadOrLegal, AnsweredChecks, AnsweredCopies, AnsweredRuns};
 
 use module_check::one_numbering;
-use report_text::order_or_fault;
-use term_value::one_order;
+use report_text::{one_order, order_or_fault};
 
 /// The text of an order of a module's machine is that of a legal and complete one, or has a first fault, and not both.
 pub fn bad_or_legal()

@@ -15,7 +15,7 @@ use Rattle.term_value.specs.AskOf.{ask_of}
 use Rattle.term_value.specs.Machine as m
 use Rattle.term_value.specs.declared.entry.Entry.TheVariants.{Sent, Saw, Shown, Started, Full, Ended}
 use Rattle.term_value.specs.declared.entry.Entry.{Entry}
-use Rattle.term_layers.proofs.Runs.{ask_reached}
+use Rattle.term_laws.proofs.Finishes.{ask_reached}
 use Rattle.code_tree.specs.PlainTerms.{value}
 use Rattle.process_acts.specs.Acts as acts
 use Rattle.process_acts.specs.Acts.{Runs, AsksFor, AsksStart, AwaitsAnswer, AwaitsMessages, IsAsking, IsFirst}

@@ -3,18 +3,12 @@ use Rattle.std.specs.Prelude.{◌≡◌, All}
 use Rattle.term_value.specs.Tree.{Module}
 use Rattle.term_value.specs.Local.{Local}
 use Rattle.term_value.specs.Machine as m
-use Rattle.term_value.specs.Orders.{IsInRange}
+use Rattle.term_value.specs.Orders.{IsInRange, SharesNothing}
 use Rattle.term_value.specs.declared.entry.Entry.{Entry}
-use Rattle.term_value.specs.declared.entry.Entry.TheVariants.{Gone}
 use Rattle.term_value.specs.declared.outcome.Outcome.{Outcome}
 use Rattle.copy_machine.specs.declared.progress.Progress.{Progress}
 use Rattle.copy_machine.specs.Following.{Follows}
 use Rattle.copy_machine.specs.Replaying.{Replays}
-
--- a process that is gone had no shared buffer, and moved no bits of one
-abbrev pub SharesNothing : Entry → Type 0
-SharesNothing (Gone pid births drops moved) = (births ≡ 0) × (drops ≡ 0) × (moved ≡ 0)
-SharesNothing _ = Unit {0}
 
 abbrev pub IsOwnEntry : Entry → Type 0
 IsOwnEntry entry = IsInRange entry × SharesNothing entry

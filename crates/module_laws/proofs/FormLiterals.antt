@@ -23,7 +23,7 @@ use Rattle.term_value.specs.Tree.{Val}
 use Rattle.term_value.specs.Tree as t
 use Rattle.term_value.specs.Read.{Reading, segments}
 use Rattle.term_value.specs.ReadTrees.{pattern_of, guard_tree, line_of, function_clauses}
-use Rattle.term_layers.specs.Inside.{InClauses, InGuard, InPattern, IsBounded}
+use Rattle.term_laws.specs.Inside.{InClauses, InGuard, InPattern, IsBounded}
 use Rattle.term_layers.proofs.Readings.{expr_read, qual_read, alt_read, branch_read, segment_read, pieces_read as read_pieces, optional_read, expr_read-Var, expr_read-Wild, expr_read-Int, expr_read-Char, expr_read-Atom, expr_read-ModuleName, expr_read-Str, expr_read-Tuple, expr_read-List, expr_read-Bits, expr_read-ListFor, expr_read-BitsFor, expr_read-Call, expr_read-Case, expr_read-Receive, expr_read-If, expr_read-Unary, expr_read-Binary, pattern_of-Var, pattern_of-Wild, pattern_of-Int, pattern_of-Char, pattern_of-Atom, pattern_of-Str, pattern_of-Tuple, pattern_of-List, pattern_of-Bits, pattern_of-Same, qual_read-Items, qual_read-Bits, qual_read-Filter, alt_read-parts, branch_read-parts, guard_tree-parts, line_of-parts, segment_read-parts}
 use Rattle.module_laws.proofs.ReadLiterals.{IsNear, AreNear, IsRead, AreRead, OfRead, ArePieces, EachPattern, IsLine, EachLine, EachTest, IsBranch, EachBranch, IsQualifier, EachQualifier, near_bounded, string_bounded, number_read, trees_read, listed_read, operation_read, prefixed_read, pieces_read, pieces_append, built_read, segments_read, bits_read, patterns_read, pattern_list_read, body_read, guard_read, clauses_read, qualified_read}
 

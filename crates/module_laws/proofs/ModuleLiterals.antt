@@ -10,8 +10,8 @@ use Rattle.erl_syntax.specs.declared.module.Module.{Module}
 use Rattle.erl_syntax.specs.declared.module.Name.{Name}
 use Rattle.term_value.specs.Read.{Reading}
 use Rattle.term_value.specs.ReadTrees.{function_of, reading, module_of}
-use Rattle.term_layers.specs.Inside.{EachFunction, IsBounded}
-use Rattle.term_layers.proofs.KeptMachine.{bounds_are_kept, orders_keep_bounds, start_is_bounded}
+use Rattle.term_laws.specs.Inside.{EachFunction, IsBounded}
+use Rattle.term_laws.proofs.KeptMachine.{bounds_are_kept, orders_keep_bounds, start_is_bounded}
 use Rattle.module_laws.specs.Literals.{LiteralsAreBounded, RunsAreBounded, MachinesAreBounded}
 use Rattle.module_laws.proofs.FormLiterals.{Fs, clauses_bounded}
 use Rattle.module_laws.proofs.SpeltLiterals.{functions_good}

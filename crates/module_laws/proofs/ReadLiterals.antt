@@ -16,7 +16,7 @@ use Rattle.term_value.specs.BuiltIns.{integers}
 use Rattle.term_value.specs.Tree.{Target, Anything, Variable, Equal, Tree, Trees, end, Pattern, Segments, no_segment, segment}
 use Rattle.term_value.specs.Rows.{uses, variable_where, shape_of_target, and_variable, shape_after, bits_generator}
 use Rattle.term_value.specs.Read.{Read, expression, literal, trees, only, Piece, piece, pieces_of, pieces, before_size, parts, built_from, segments, listed, signed_target, prefixed, operation, Line, patterns, from_right, last_line, body, alternatives, guard_of, Branch, clauses, Qualifier, Generates, Filters, qualified, pattern_list}
-use Rattle.term_layers.specs.Inside.{InTarget, InTree, InTrees, InClauses, InGuard, InQuals, InGenerator, InPattern, InPatterns, InSegments, IsBounded, AreBounded}
+use Rattle.term_laws.specs.Inside.{InTarget, InTree, InTrees, InClauses, InGuard, InQuals, InGenerator, InPattern, InPatterns, InSegments, IsBounded, AreBounded}
 
 -- ---- Values
 

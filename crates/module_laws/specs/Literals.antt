@@ -3,7 +3,7 @@ use Rattle.std.specs.Prelude.{ℕ, List}
 use Rattle.erl_syntax.specs.Reading.{Reads}
 use Rattle.erl_syntax.specs.declared.checking.VarUse.{VarUse}
 use Rattle.erl_syntax.specs.declared.module.Module.{Module}
-use Rattle.term_layers.specs.Inside.{InModule, InLocal, InMachine, IsBounded}
+use Rattle.term_laws.specs.Inside.{InModule, InLocal, InMachine, IsBounded}
 use Rattle.term_value.specs.Local.{Local, Contracts}
 use Rattle.term_value.specs.Machine.{Machine, Leads, start_of}
 use Rattle.term_value.specs.ReadTrees.{module_of}

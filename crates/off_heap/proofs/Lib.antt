@@ -1,6 +1,7 @@
-pub mod Slots
+pub mod Growth
 pub mod Kept
 pub mod Linking
-pub mod Written
 pub mod Out
+pub mod Slots
 pub mod Walked
+pub mod Written

@@ -100,6 +100,12 @@ abbrev pub NoLatest : List (Option Cell) → BitRef → Type 0
 NoLatest cells (Small bits) = Unit {0}
 NoLatest cells (Part n off len) = (start more : ℕ) → Latest cells (Part n start more) → ⊥
 
+-- the second reference is to the cell of the first, and is the latest result of its room
+abbrev pub Grows : List (Option Cell) → BitRef → BitRef → Type 0
+Grows cells (Part n off len) (Part m start more) = (m ≡ n) × Latest cells (Part m start more)
+Grows cells (Part n off len) (Small bits) = ⊥
+Grows cells (Small bits) other = ⊥
+
 -- ---- what calls change
 -- every other cell is as it was
 abbrev pub OnlyCell : ℕ → List (Option Cell) → List (Option Cell) → Type 0

@@ -1,6 +1,6 @@
 //! The heap as a store.
 
-ghost use Rattle.off_heap.specs.Cells.{Valid, shown as shown_by};
+ghost use Rattle.off_heap.specs.Cells.{Grows, Valid, shown as shown_by};
 ghost use Rattle.off_heap.specs.Short.{valid_is_short};
 
 use crate::heap::Heap;
@@ -13,6 +13,8 @@ impl Store<BitRef> for Heap {
     ghost shown = { λ heap of. shown_by heap.cells of };
 
     ghost has = { λ heap of. Valid heap.cells of };
+
+    ghost grows = { λ heap of other. Grows heap.cells of other };
 
     fn look<'a>(&'a self, of: &'a BitRef) -> Bits<'a> {
         self.look(of)
@@ -36,6 +38,7 @@ impl Store<BitRef> for Heap {
         self.append(to, pieces, steps)
     }
 
+    #[tactic(auto, using(crate::proofs::Growth::no_growth))]
     fn still(&mut self, of: &BitRef) {
         self.still(of)
     }

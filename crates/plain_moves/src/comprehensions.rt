@@ -209,7 +209,7 @@ pub(crate) fn give_row<'a>(
     ensures { IfOk result (λ made. IsMove (world_of scene.now) (wrap (e.layer_of (e.GivingIn (got_of gathering.entry.got) (levels_of (step.setting (world_of scene.now)) gathering.entry.levels))) (t.Val (value term))) made) }
 {
     let Gathering { mut got, levels } = gathering;
-    match got.collect(scene.alloc, term)? {
+    match got.collect(term)? {
         Collecting::Goes { .. } => Ok(Move::Goes(
             0,
             Focus::Goes(Open::Rows(Gathering { got, levels })),

@@ -1,7 +1,7 @@
 -- A text spells an order or has a first line that is no entry, and not both.
 use Rattle.std.proofs.Common.{◌≡◌, ◌⊎◌, inl, inr, ℕ, zero, suc, ◌+◌, ◌<◌, ◌≤◌, List, [], ◌∷◌, ◌++◌, length, All, codes, refl, ap, sym, ◌∙◌, arith, append_assoc, append-nil}
 use Rattle.std.proofs.lemmas.List.Elements.{All-head, All-tail}
-use Rattle.term_value.proofs.OrderLines.{entry_is_line, not_empty, one_entry}
+use Rattle.report_text.proofs.OrderLines.{entry_is_line, not_empty, one_entry}
 use Rattle.term_value.specs.Orders.{HasNoEntry, HasNoLineFeed, IsInRange, IsLine, IsNoEntry, IsOrderText, entry_text, order_text}
 use Rattle.term_value.specs.declared.entry.Entry.{Entry}
 

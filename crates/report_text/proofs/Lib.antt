@@ -1,3 +1,4 @@
 pub mod Exact
 pub mod LineParts
 pub mod Numbers
+pub mod OrderLines

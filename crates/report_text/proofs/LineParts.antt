@@ -1,6 +1,6 @@
 -- A line's entry, by its word and its numbers.
 use Rattle.std.proofs.Common.{◌≡◌, ℕ, ◌≤◌, List, [], ◌∷◌, ◌++◌, length, take, drop, Option, None, Some, MatchOption, ap, sym, ◌∙◌, arith, append-nil, append_assoc, take-append-drop}
-use Rattle.term_value.proofs.OrderLines.{above_word, entry-parts, in_range_small, numbers_mark, one_numbers}
+use Rattle.report_text.proofs.OrderLines.{above_word, entry-parts, in_range_small, numbers_mark, one_numbers}
 use Rattle.term_value.specs.Orders.{IsNoEntry, entry_numbers, entry_text, entry_word, order_text}
 use Rattle.std.proofs.lemmas.Grind.{flat_map-append}
 use Rattle.term_value.specs.declared.entry.Entry.{Entry}

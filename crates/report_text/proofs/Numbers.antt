@@ -5,7 +5,7 @@ use lib.Pointwise.{pointwise, bytes_decides}
 use lib.Dec.{eqb}
 use mathlib.Core.Bool.{not}
 use Rattle.std.proofs.lemmas.Fmt.{decimal_injective}
-use Rattle.term_value.proofs.OrderLines.{above_digits, cut_apart, numbers_mark, numbers-more}
+use Rattle.report_text.proofs.OrderLines.{above_digits, cut_apart, numbers_mark, numbers-more}
 use Rattle.report_text.specs.Fields.{AreNumbers, AreSmall, IsCut, IsField, IsWord, spaced}
 
 -- ---- One number

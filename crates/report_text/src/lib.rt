@@ -7,6 +7,6 @@ mod laws;
 mod lines;
 mod reports;
 
-pub use laws::order_or_fault;
+pub use laws::{entry_is_line, one_order, order_or_fault};
 pub use lines::{OrderFault, order, read_order};
 pub use reports::report;

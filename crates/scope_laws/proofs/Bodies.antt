@@ -22,7 +22,7 @@ use Rattle.term_value.specs.Tree as tree
 use Rattle.term_value.specs.Read.{Read, expression, trees, Line, patterns, from_right, last_line, body, alternatives, guard_of, clauses}
 use Rattle.term_value.specs.Read as r
 use Rattle.term_value.specs.ReadTrees.{tree_of, pattern_of, guard_tree, line_of}
-use Rattle.term_layers.specs.Scoped.{pattern_names, patterns_names, IsScoped, IsGuardScoped, AreClausesScoped, ArePatternsScoped, AreScopedInTurn}
+use Rattle.term_laws.specs.Scoped.{pattern_names, patterns_names, IsScoped, IsGuardScoped, AreClausesScoped, ArePatternsScoped, AreScopedInTurn}
 use Rattle.term_layers.proofs.Readings.{expr_read, alt_read, branch_read, expr_read-Case, expr_read-Receive, expr_read-If, alt_read-parts, branch_read-parts, guard_tree-parts, line_of-parts}
 use Rattle.module_check.proofs.Complete.{reversed}
 use Rattle.module_check.proofs.Spots.{Contains-head, Contains-tail, cut_in}

@@ -10,12 +10,12 @@ use Rattle.erl_syntax.specs.declared.expr.Expr.{Expr}
 use Rattle.erl_syntax.specs.declared.expr.Expr.TheVariants as x
 use Rattle.erl_syntax.specs.declared.module.Module.{Module}
 use Rattle.erl_syntax.specs.declared.span.Span.{Span}
-use Rattle.term_value.specs.CallLaws.{trees_of}
+use Rattle.term_laws.specs.CallLaws.{trees_of}
 use Rattle.term_value.specs.Calls.{called, form_of}
 use Rattle.term_value.specs.Read.{Reading, module_of, trees}
 use Rattle.term_value.specs.ReadTrees.{reading, tree_of}
 use Rattle.term_value.specs.Tree.{Prim, Form, Table, Call, Send, Display, Spawn, Native, Tree, Trees, and, All as Evaluated}
-use Rattle.term_value.proofs.CallLaws.{calls_are_read}
+use Rattle.term_laws.proofs.CallLaws.{calls_are_read}
 use Rattle.term_layers.proofs.Readings.{expr_read, expr_read-Call}
 use Rattle.scope_laws.specs.Accepted.{GuardCallsArePrimitive}
 

@@ -16,9 +16,9 @@ use Rattle.term_value.specs.Tree.{Items, Bits, Tree, Gather, Generator, InList, 
 use Rattle.term_value.specs.Rows.{bits_generator}
 use Rattle.term_value.specs.Read.{expression, segments, Qualifier, Generates, Filters, qualified}
 use Rattle.term_value.specs.ReadTrees.{tree_of, pattern_of}
-use Rattle.term_layers.specs.Scoped.{generator_names, AreNew, IsScoped, IsGeneratorScoped, AreQualsScoped}
+use Rattle.term_laws.specs.Scoped.{generator_names, AreNew, IsScoped, IsGeneratorScoped, AreQualsScoped}
 use Rattle.term_layers.proofs.Readings.{qual_read, pieces_read, expr_read-ListFor, expr_read-BitsFor, qual_read-Items, qual_read-Bits, qual_read-Filter}
-use Rattle.term_layers.proofs.ScopedLaws.{shape_scoped}
+use Rattle.term_laws.proofs.ScopedLaws.{shape_scoped}
 use Rattle.module_check.proofs.Chained.{found_joined}
 use Rattle.module_check.proofs.Left.{items_new, bits_new, filter_new}
 use Rattle.module_check.proofs.Spots.{Contains-head, none_in}

@@ -15,10 +15,10 @@ use Rattle.erl_syntax.specs.declared.segment.Spec.{Spec}
 use Rattle.term_value.specs.Value.{VInt, VAtom}
 use Rattle.erl_syntax.specs.Atoms.{a_ok}
 use Rattle.term_value.specs.Tree.{MakeTuple, Table, Tree, Trees, Val, All as Evaluated}
-use Rattle.term_value.specs.GuardLaws.{IsTest, AreTests}
+use Rattle.term_laws.specs.GuardLaws.{IsTest, AreTests}
 use Rattle.term_value.specs.Read.{Read, expression, literal, trees, Piece, piece, pieces_of, before_size, parts, built_from, listed, prefixed, operation}
 use Rattle.term_value.specs.ReadTrees.{variable, string, tree_of}
-use Rattle.term_layers.specs.Scoped.{IsScoped, AreScoped}
+use Rattle.term_laws.specs.Scoped.{IsScoped, AreScoped}
 use Rattle.term_layers.proofs.Readings.{expr_read, segment_read, pieces_read, optional_read, expr_read-Var, expr_read-Wild, expr_read-Int, expr_read-Char, expr_read-Atom, expr_read-ModuleName, expr_read-Str, expr_read-Tuple, expr_read-List, expr_read-Bits, expr_read-Call, expr_read-Unary, expr_read-Binary, segment_read-parts}
 use Rattle.module_laws.specs.Variables.{expr_spans, segment_spans}
 use Rattle.module_laws.proofs.VariableForms.{in_exprs, in_segments, in_size, expr-Var, expr-Wild, expr-Int, expr-Char, expr-Atom, expr-ModuleName, expr-Str, expr-Tuple, expr-List, expr-Bits, expr-Call, expr-Unary, expr-Binary, segment-of}

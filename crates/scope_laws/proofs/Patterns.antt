@@ -18,7 +18,7 @@ use Rattle.term_value.specs.Tree.{PWild, PVar, PVal, PTuple, PList, PListOn, PBi
 use Rattle.term_value.specs.Tree as tree
 use Rattle.term_value.specs.Read.{patterns, pattern_list, segments}
 use Rattle.term_value.specs.ReadTrees.{pattern_of}
-use Rattle.term_layers.specs.Scoped.{pattern_names, patterns_names, IsPatternScoped, ArePatternsScoped, AreScopedInTurn}
+use Rattle.term_laws.specs.Scoped.{pattern_names, patterns_names, IsPatternScoped, ArePatternsScoped, AreScopedInTurn}
 use Rattle.term_layers.proofs.Readings.{pieces_read, pattern_of-Var, pattern_of-Wild, pattern_of-Int, pattern_of-Char, pattern_of-Atom, pattern_of-Str, pattern_of-Tuple, pattern_of-List, pattern_of-Bits, pattern_of-Same}
 use Rattle.module_check.proofs.Left.{tuple_targets, list_targets, bits_targets, same_targets}
 use Rattle.module_check.proofs.Spots.{only_one}

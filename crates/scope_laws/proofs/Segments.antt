@@ -26,12 +26,12 @@ use Rattle.erl_syntax.specs.declared.typing.SideUse.TheVariants as side
 use Rattle.term_value.specs.Value.{VInt}
 use Rattle.term_value.specs.Tree.{Target, Anything, Variable, Equal, Tree, Trees, end, and}
 use Rattle.term_value.specs.Tree as tree
-use Rattle.term_value.specs.GuardLaws.{IsTest}
+use Rattle.term_laws.specs.GuardLaws.{IsTest}
 use Rattle.term_value.specs.Read.{Read, literal, Piece, piece, pieces, pieces_of, before_size, segments, signed_target, target_of, Line, Qualifier}
 use Rattle.term_value.specs.Read as r
 use Rattle.term_value.specs.ReadTrees.{variable, tree_of}
 use Rattle.term_value.specs.ReadTrees as read_trees
-use Rattle.term_layers.specs.Scoped.{target_names, segment_names, IsScoped, AreSegmentsScoped}
+use Rattle.term_laws.specs.Scoped.{target_names, segment_names, IsScoped, AreSegmentsScoped}
 use Rattle.term_layers.proofs.Readings.{expr_read, segment_read, pieces_read, optional_read, expr_read-Var, segment_read-parts}
 use Rattle.module_check.specs.Spots.{place_of, shown, size_scope}
 use Rattle.module_check.proofs.Chained.{found_joined}

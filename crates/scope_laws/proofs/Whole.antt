@@ -15,9 +15,9 @@ use Rattle.erl_syntax.specs.declared.span.Span.{Span}
 use Rattle.term_value.specs.Machine.{Running, start_of}
 use Rattle.term_value.specs.Read.{patterns}
 use Rattle.term_value.specs.ReadTrees.{function_clauses, function_of, module_of, pattern_of, reading}
-use Rattle.term_layers.specs.Scoped.{patterns_names, AreClausesScoped, IsFunctionScoped, IsCourseScoped, IsProcessScoped}
-use Rattle.term_layers.proofs.ScopedLaws.{none_unbound}
-use Rattle.term_layers.proofs.ScopedMachine.{start_scoped, leads_scoped, contracts_scoped}
+use Rattle.term_laws.specs.Scoped.{patterns_names, AreClausesScoped, IsFunctionScoped, IsCourseScoped, IsProcessScoped}
+use Rattle.term_laws.proofs.ScopedLaws.{none_unbound}
+use Rattle.term_laws.proofs.ScopedMachine.{start_scoped, leads_scoped, contracts_scoped}
 use Rattle.module_check.proofs.Spots.{Contains-head, Contains-tail}
 use Rattle.module_laws.specs.Variables.{clause_spans, function_spans, guard_spans}
 use Rattle.module_laws.proofs.ModuleVariables.{variables_rise}

@@ -10,8 +10,8 @@ use Rattle.erl_syntax.specs.declared.expr.Expr.TheVariants as x
 use Rattle.erl_syntax.specs.declared.module.Module.{Module}
 use Rattle.erl_syntax.specs.declared.span.Span.{Span}
 use Rattle.term_layers.specs.Layers.{Layer, plug}
-use Rattle.term_layers.specs.Scoped.{IsMachineScoped, IsModuleScoped}
-use Rattle.term_value.specs.CallLaws.{trees_of}
+use Rattle.term_laws.specs.Scoped.{IsMachineScoped, IsModuleScoped}
+use Rattle.term_laws.specs.CallLaws.{trees_of}
 use Rattle.term_value.specs.Local.{At, Contracts, Local}
 use Rattle.term_value.specs.Machine.{Leads, Machine, Running, start_of}
 use Rattle.term_value.specs.ReadTrees.{module_of, reading, tree_of}

@@ -6,8 +6,6 @@ use Rattle.term_value.specs.Result.{Stop, Limit, Raise}
 use Rattle.term_value.specs.Tree.{Tree, Val, Module}
 use Rattle.term_value.specs.Step.{Step, Ready, Goes, Falls, Asks, Looks, lift, step}
 use Rattle.term_value.specs.Local.{Local, Course, At, Fell, Next, On, Asking, ForMore, world, Seen, Takes, NoMessage, SeenLimit, looked, charged, is_normal, raised_where, ended, if_left, of_seen, of_step, of_course, next_of, Contracts, stands, contracts, NextAsk, asked}
-use Rattle.term_value.specs.AskOf.{ask_of}
-use Rattle.term_value.proofs.Finishes.{each_asks}
 use Rattle.term_layers.specs.Layers.{Layer, plug, plug_course, within_layers, next_within, IsOpen, IsOpenCourse}
 use Rattle.term_layers.proofs.Under.{under}
 
@@ -67,7 +65,3 @@ module _ (layers : List Layer) where
     runs_under _ _ _ _ (contracts l mid k cost made costs mades e c) =
         contracts (within_layers layers l) (within_layers layers mid) (within_layers layers k) cost made costs mades
         (next_under l (contracts_open l mid cost made l.course e) ∙ ap (next_within layers) e) (runs_under mid k costs mades c)
-
--- what a state asks for that a run reaches is the one ask of the state before
-pub ask_reached : (code : Module) (l k : Local) (cost made : ℕ) (ask : NextAsk) → Contracts code l cost made k → asked (next_of code k) ≡ Some ask → ask ≡ ask_of code l
-ask_reached code l k cost made ask c e = ((each_asks code l).3 cost made ask (record { state = k; path = c; asks = e })).2

@@ -79,7 +79,3 @@ NextUnder = (layers : List Layer) (code : Module) (l : Local) → IsOpenCourse (
 -- a run of the open part is a run of the whole, at the same cost, and makes as many bits
 abbrev pub RunsUnder : Type 0
 RunsUnder = (layers : List Layer) (code : Module) (l k : Local) (cost made : ℕ) → Contracts code l cost made k → Contracts code (within_layers layers l) cost made (within_layers layers k)
-
--- what a state asks for that a run reaches is the one ask of the state before
-abbrev pub AskReached : Type 0
-AskReached = (code : Module) (l k : Local) (cost made : ℕ) (ask : NextAsk) → Contracts code l cost made k → asked (next_of code k) ≡ Some ask → ask ≡ ask_of code l

@@ -1,5 +1,5 @@
 //! An expression is its open part within layers.
-ghost use Rattle.term_layers.specs.Layers.{AskReached, FormActs, NextUnder, RunsUnder, StepUnder};
+ghost use Rattle.term_layers.specs.Layers.{FormActs, NextUnder, RunsUnder, StepUnder};
 ghost use Rattle.term_layers.specs.Turns.{GivingNext, OpeningNext};
 
 /// A value of the open part goes to the innermost layer, and whatever else is next in the open part is next in the whole.
@@ -20,11 +20,6 @@ pub fn next_under()
 /// A run of the open part is a run of the whole.
 pub fn runs_under()
     ensures { RunsUnder }
-{}
-
-/// What a state asks for that a run reaches is the one ask of the state before.
-pub fn ask_reached()
-    ensures { AskReached }
 {}
 
 /// The turn of an open part tells what the part is, or what is next in it.

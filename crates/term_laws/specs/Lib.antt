@@ -1,0 +1,9 @@
+pub mod CallLaws
+pub mod GuardLaws
+pub mod Inside
+pub mod Laws
+pub mod Scoped
+pub mod Worked
+pub mod WorkedModules
+pub mod WorkedReads
+pub mod WorkedRuns

@@ -1,6 +1,0 @@
-use Rattle.term_layers.proofs.KeptMachine.{start_is_bounded}
-use Rattle.term_layers.proofs.inside.start_is_bounded.Goals as goal
-
--- src/inside.rt
-pub returns : goal.returns
-returns c = start_is_bounded

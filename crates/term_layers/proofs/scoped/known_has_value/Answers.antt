@@ -1,6 +1,0 @@
-use Rattle.term_layers.proofs.ScopedLaws.{known_value}
-use Rattle.term_layers.proofs.scoped.known_has_value.Goals as goal
-
--- src/scoped.rt
-pub returns : goal.returns
-returns c = known_value

@@ -1,6 +1,0 @@
-use Rattle.term_layers.proofs.ScopedSteps.{next_scoped}
-use Rattle.term_layers.proofs.scoped.next_stays_scoped.Goals as goal
-
--- src/scoped.rt
-pub returns : goal.returns
-returns c = next_scoped

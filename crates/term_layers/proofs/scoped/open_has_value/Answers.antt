@@ -1,6 +1,0 @@
-use Rattle.term_layers.proofs.ScopedLaws.{open_value}
-use Rattle.term_layers.proofs.scoped.open_has_value.Goals as goal
-
--- src/scoped.rt
-pub returns : goal.returns
-returns c = open_value

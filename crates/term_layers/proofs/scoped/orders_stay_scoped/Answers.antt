@@ -1,6 +1,0 @@
-use Rattle.term_layers.proofs.ScopedMachine.{start_scoped, leads_scoped}
-use Rattle.term_layers.proofs.scoped.orders_stay_scoped.Goals as goal
-
--- src/scoped.rt
-pub returns : goal.returns
-returns c = (start_scoped, leads_scoped)

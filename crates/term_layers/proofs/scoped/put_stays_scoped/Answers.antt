@@ -1,6 +1,0 @@
-use Rattle.term_layers.proofs.ScopedLaws.{put_closes}
-use Rattle.term_layers.proofs.scoped.put_stays_scoped.Goals as goal
-
--- src/scoped.rt
-pub returns : goal.returns
-returns c = put_closes

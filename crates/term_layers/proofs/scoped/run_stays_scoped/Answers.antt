@@ -1,6 +1,0 @@
-use Rattle.term_layers.proofs.ScopedMachine.{contracts_scoped}
-use Rattle.term_layers.proofs.scoped.run_stays_scoped.Goals as goal
-
--- src/scoped.rt
-pub returns : goal.returns
-returns c = contracts_scoped

@@ -1,6 +1,0 @@
-use Rattle.term_value.proofs.Parcels.{parcel_starts}
-use Rattle.term_value.proofs.laws.parcel_starts.Goals as goal
-
--- src/laws.rt
-pub returns : goal.returns
-returns c = parcel_starts
