@@ -12,6 +12,4 @@ pub use bindings::{
 };
 pub use cursors::{bit_cursor, enough_looks, list_cursor};
 pub use environments::{chosen_is_picked, gives_alike, opens_alike};
-pub use layers::{
-    form_acts, giving_next, next_under, opening_next, runs_under, step_under,
-};
+pub use layers::{form_acts, giving_next, next_under, opening_next, runs_under, step_under};
