@@ -1,4 +1,4 @@
-"""Times `bits_cli run` and `copy` on programs that grow, and prints the time against that of half as much work: 2 is linear.
+"""Times `bits_cli run`, `copy` and `load` on programs that grow, and prints the time against that of half as much work: 2 is linear.
 
 The time is the processor's, of the program with its start, less that of a module that does nothing. A run's time is counted in
 hundredths of a second at least, so the sizes are such that the shortest takes some of them. Called by run.sh with the path of the
@@ -11,6 +11,7 @@ import sys
 import tempfile
 
 REDUCTIONS = "4000000"
+LARGEST_LOAD = 100_000
 HEAD = "-module(m).\n-export([main/0,echo/1,sink/2]).\n"
 NOTHING = HEAD + "main() -> ok.\necho(_) -> ok.\nsink(_, _) -> ok.\n"
 UNUSED_ECHO = "echo(_) -> ok.\n"
@@ -102,9 +103,9 @@ KINDS = {
 }
 
 
-def spent_by(words):
-    """The processor's time of a run, which has to end with status 0."""
-    process = subprocess.Popen(words, stdout=subprocess.DEVNULL)
+def spent_by(words, folder):
+    """The processor's time of a run in the folder, which has to end with status 0."""
+    process = subprocess.Popen(words, cwd=folder, stdout=subprocess.DEVNULL)
     _, status, used = os.wait4(process.pid, 0)
     process.returncode = os.waitstatus_to_exitcode(status)
     if process.returncode != 0:
@@ -112,28 +113,44 @@ def spent_by(words):
     return used.ru_utime + used.ru_stime
 
 
+def compare(kind, name, largest, timed):
+    """Prints the times of each size, of which each is twice the one before it, against those of the one before it."""
+    before = None
+    for size in (largest // 4, largest // 2, largest):
+        ran, copied = timed(size)
+        if before:
+            print(f"{kind}, {size}: {name} {ran / before[0]:.2f}, copy {copied / before[1]:.2f} times the time of half as many", flush=True)
+        before = (ran, copied)
+
+
 def main():
     program = sys.argv[1]
-    with tempfile.TemporaryDirectory() as name:
-        source = pathlib.Path(name) / "m.erl"
-        order = pathlib.Path(name) / "m.order"
-        run = [program, "run", str(source), str(order), "1", REDUCTIONS]
-        copy = [program, "copy", str(source), str(order), REDUCTIONS]
+    with tempfile.TemporaryDirectory() as folder:
+        source = pathlib.Path(folder) / "m.erl"
+        run = [program, "run", "m.erl", "m.order", "1", REDUCTIONS]
+        copy = [program, "copy", "m.erl", "m.order", REDUCTIONS]
+        copy_of_load = [program, "copy", "m.erl", "load.order", REDUCTIONS]
 
-        def seconds(text, words):
-            source.write_text(text)
-            return min(spent_by(words) for _ in range(3))
+        def seconds(words):
+            return min(spent_by(words, folder) for _ in range(3))
 
-        start = seconds(NOTHING, run)
-        for kind, (program_of, n) in KINDS.items():
-            before = None
-            for size in (n // 4, n // 2, n):
-                text = program_of(size)
-                ran = max(seconds(text, run) - start, 0.001)
-                copied = max(seconds(text, copy) - start, 0.001)
-                if before:
-                    print(f"{kind}, {size}: run {ran / before[0]:.2f}, copy {copied / before[1]:.2f} times the time of half as many", flush=True)
-                before = (ran, copied)
+        source.write_text(NOTHING)
+        start = seconds(run)
+
+        def longer(words):
+            return max(seconds(words) - start, 0.001)
+
+        def load(size):
+            source.write_bytes(subprocess.run([program, "gen", "1", str(size)], capture_output=True, check=True).stdout)
+            return longer([program, "load", "1", str(size), "1"]), longer(copy_of_load)
+
+        for kind, (program_of, largest) in KINDS.items():
+            def both(size, program_of=program_of):
+                source.write_text(program_of(size))
+                return longer(run), longer(copy)
+
+            compare(kind, "run", largest, both)
+        compare("the generated module", "load", LARGEST_LOAD, load)
 
 
 main()

@@ -32,6 +32,14 @@ fn word(alloc: Global, words: &[String], at: usize) -> Result<String, AllocError
     }
 }
 
+// The file that the order is written to.
+fn order_path(alloc: Global, words: &[String]) -> Result<String, AllocError> {
+    match words.first() {
+        Some(name) if name.as_str() == "load" => String::from_str(alloc, "load.order"),
+        _ => word(alloc, words, 2),
+    }
+}
+
 fn answer<R: Files + Print + Threads + Wait + Sync>(
     rt: &R,
     alloc: Global,
@@ -40,7 +48,7 @@ fn answer<R: Files + Print + Threads + Wait + Sync>(
     let mut module = FileSource::of(rt, word(alloc, words, 1)?);
     let mut order_in = FileSource::of(rt, word(alloc, words, 2)?);
     let mut report = OutSink::of(rt);
-    let mut order_out = FileSink::of(rt, word(alloc, words, 2)?);
+    let mut order_out = FileSink::of(rt, order_path(alloc, words)?);
     Ok(top(
         rt,
         alloc,

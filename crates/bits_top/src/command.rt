@@ -1,7 +1,9 @@
 // The words of a command line.
 ghost use Rattle.std.specs.Prelude.{◌≡◌, ◌≤◌, ◌<◌, ℕ, List, map, string_bytes, MatchOption};
-ghost use Rattle.bits_top.specs.Command.{SpellsCheck, SpellsCommand, SpellsCopy, SpellsNumber, SpellsPlain, SpellsRun};
+ghost use Rattle.bits_top.specs.Command.{SpellsCheck, SpellsCommand, SpellsCopy, SpellsGen, SpellsGenerated, SpellsLoad, SpellsNumber, SpellsPlain, SpellsRun};
 ghost use Rattle.bits_top.specs.declared.command.Command.{Command};
+ghost use Rattle.bits_top.specs.declared.command.Generated.{Generated};
+ghost use Rattle.bits_top.specs.declared.command.Load.{Load};
 ghost use Rattle.bits_top.specs.declared.command.Run.{Run};
 ghost use Rattle.bits_top.specs.declared.plain.Plain.{Plain};
 
@@ -10,12 +12,15 @@ use itoa::Buffer;
 
 const MOST_SCHEDULERS: u32 = 64;
 
-const MOST_REDUCTIONS: u32 = 4_000_000;
+pub(crate) const MOST_REDUCTIONS: u32 = 4_000_000;
+
+const LARGEST_SIZE: u32 = 100_000;
 
 // What the words ask for.
 #[derive(Clone, Copy, Debug, PartialEq, Eq)]
 pub(crate) enum Command {
     Run(Run),
+    Load(Load),
     Plain(Plain),
 }
 
@@ -24,6 +29,20 @@ pub(crate) enum Command {
 pub(crate) struct Run {
     pub schedulers: u32,
     pub reductions: u32,
+}
+
+// `load SEED SIZE SCHEDULERS`
+#[derive(Clone, Copy, Debug, PartialEq, Eq)]
+pub(crate) struct Load {
+    pub input: Generated,
+    pub schedulers: u32,
+}
+
+// Which generated module: `SEED SIZE`.
+#[derive(Clone, Copy, Debug, PartialEq, Eq)]
+pub(crate) struct Generated {
+    pub seed: u32,
+    pub size: u32,
 }
 
 // The number that a word spells in the range, if it spells one.
@@ -38,6 +57,19 @@ fn number(word: &str, low: u32, high: u32) -> Option<u32>
         return None;
     }
     Some(n)
+}
+
+// The generated module that the two words name, if they do.
+fn generated_of(seed: &str, size: &str) -> Option<Generated>
+    ensures { MatchOption result ((input : Generated) → SpellsGenerated seed.now size.now input → ⊥) (λ input. SpellsGenerated seed.now size.now input) }
+{
+    let Some(seed) = number(seed, 0, u32::MAX) else {
+        return None;
+    };
+    let Some(size) = number(size, 1, LARGEST_SIZE) else {
+        return None;
+    };
+    Some(Generated { seed, size })
 }
 
 // The run that the words ask for, if they do.
@@ -60,6 +92,25 @@ fn run_of(words: &[String]) -> Option<Run>
         schedulers,
         reductions,
     })
+}
+
+// The run of a generated module that the words ask for, if they do.
+fn load_of(words: &[String]) -> Option<Load>
+    ensures { MatchOption result ((load : Load) → SpellsLoad (map string_bytes words.now) load → ⊥) (λ load. SpellsLoad (map string_bytes words.now) load) }
+{
+    let [name, seed, size, schedulers] = words else {
+        return None;
+    };
+    if name.as_str() != "load" {
+        return None;
+    }
+    let Some(input) = generated_of(seed.as_str(), size.as_str()) else {
+        return None;
+    };
+    let Some(schedulers) = number(schedulers.as_str(), 1, MOST_SCHEDULERS) else {
+        return None;
+    };
+    Some(Load { input, schedulers })
 }
 
 // Whether the words ask for the check of a module.
@@ -91,6 +142,22 @@ fn copy_of(words: &[String]) -> Option<u32>
     Some(reductions)
 }
 
+// The generated module whose text the words ask for, if they do.
+fn gen_of(words: &[String]) -> Option<Generated>
+    ensures { MatchOption result ((input : Generated) → SpellsGen (map string_bytes words.now) input → ⊥) (λ input. SpellsGen (map string_bytes words.now) input) }
+{
+    let [name, seed, size] = words else {
+        return None;
+    };
+    if name.as_str() != "gen" {
+        return None;
+    }
+    let Some(input) = generated_of(seed.as_str(), size.as_str()) else {
+        return None;
+    };
+    Some(input)
+}
+
 // The command that waits for nothing that the words spell, if they spell one.
 fn plain_of(words: &[String]) -> Option<Plain>
     ensures { MatchOption result ((plain : Plain) → SpellsPlain (map string_bytes words.now) plain → ⊥) (λ plain. SpellsPlain (map string_bytes words.now) plain) }
@@ -98,10 +165,13 @@ fn plain_of(words: &[String]) -> Option<Plain>
     if let Some(()) = check_of(words) {
         return Some(Plain::Check);
     }
-    let Some(reductions) = copy_of(words) else {
+    if let Some(reductions) = copy_of(words) {
+        return Some(Plain::Copy { reductions });
+    }
+    let Some(Generated { seed, size }) = gen_of(words) else {
         return None;
     };
-    Some(Plain::Copy { reductions })
+    Some(Plain::Gen { seed, size })
 }
 
 // The command that the words spell, if they spell one.
@@ -110,6 +180,9 @@ pub(crate) fn command_of(words: &[String]) -> Option<Command>
 {
     if let Some(run) = run_of(words) {
         return Some(Command::Run(run));
+    }
+    if let Some(load) = load_of(words) {
+        return Some(Command::Load(load));
     }
     let Some(plain) = plain_of(words) else {
         return None;

@@ -5,4 +5,6 @@ pub enum Plain {
     Check,
     /// The report of a module in an order that is read, each process of the module with so many reductions.
     Copy { reductions: u32 },
+    /// The text of the generated module for a seed and a size.
+    Gen { seed: u32, size: u32 },
 }

@@ -3,17 +3,19 @@ ghost use Rattle.std.specs.Prelude.{◌≡◌, ◌↔◌, ◌+◌, List, map, st
 ghost use Rattle.bits_top.specs.Answer.{AnswersCommand, AnswersPlain, DoesWell, PlainDoesWell};
 ghost use Rattle.bits_top.specs.Command.{SpellsCommand};
 ghost use Rattle.bits_top.specs.declared.command.Command.{Command};
-ghost use Rattle.command_answers.specs.Answer.{AnswersCheck, Untouched, port};
+ghost use Rattle.command_answers.specs.Answer.{AnswersCheck, AnswersGen, Untouched, port};
 ghost use Rattle.command_answers.specs.Stream.{ConsumesAtMost};
 ghost use Rattle.erl_syntax.specs.Reading.{longest_text};
+ghost use Rattle.module_gen.specs.Generated.{generated};
 ghost use Rattle.term_value.specs.Orders.{order_bound};
 
 use crate::command::{Command, command_of};
 use crate::copying::copy;
-use crate::running::run;
+use crate::running::{load, run};
 use crate::{Plain, Status};
-use command_answers::{checks_well, copies_well, open, reported, runs_well};
+use command_answers::{checks_well, copies_well, gens_well, open, reported, runs_well};
 use io_ports::{Gate, Place, Sink, Source};
+use module_gen::generate;
 use std::alloc::Global;
 use std::sync::Wait;
 use std::thread::Threads;
@@ -24,11 +26,13 @@ use std::thread::Threads;
 ///
 /// - `run MODULE ORDER SCHEDULERS REDUCTIONS` reads the module's text from `module`, writes the order of the visible acts to
 ///   `order_out`, and then the report to `report`. One thread serves for every number of schedulers.
+/// - `load SEED SIZE SCHEDULERS` does so with the text of the generated module and 4,000,000 reductions, and reads nothing.
 /// - `check MODULE` reads the module's text and writes `ok` to `report`.
 /// - `copy MODULE ORDER REDUCTIONS` reads the module's text and an order from `order_in`, and writes the report of the module in
 ///   that order to `report`, or the line of the order's first fault.
+/// - `gen SEED SIZE` writes the text of the generated module to `report`.
 ///
-/// A text that isn't accepted is refused by all three, with the line of its first fault as the report. A port that the command
+/// A text that isn't accepted is refused by all that check it, with the line of its first fault as the report. A port that the command
 /// doesn't name here isn't used.
 pub fn top<R: Threads + Wait + Sync, S: Source, T: Source, A: Sink, B: Sink, G: Gate + Sync>(
     _rt: &R,
@@ -59,12 +63,16 @@ pub fn top<R: Threads + Wait + Sync, S: Source, T: Source, A: Sink, B: Sink, G: 
     ensures takes { ConsumesAtMost (S.left «module».old) (S.left «module».new) (longest_text + 1) }
     ensures takes_order { ConsumesAtMost (T.left order_in.old) (T.left order_in.new) (order_bound + 1) }
 {
+    runs_well();
     match command_of(words) {
         None => Status::Usage,
         Some(Command::Run(asked)) => {
-            runs_well();
             gate.at(Place::Took { worker: 0, pid: 1 });
             run(alloc, asked.reductions, module, report, order_out)
+        }
+        Some(Command::Load(asked)) => {
+            gate.at(Place::Took { worker: 0, pid: 1 });
+            load(alloc, asked.input, report, order_out)
         }
         Some(Command::Plain(plain)) => top_plain(alloc, &plain, module, order_in, report),
     }
@@ -74,7 +82,7 @@ pub fn top<R: Threads + Wait + Sync, S: Source, T: Source, A: Sink, B: Sink, G: 
 ///
 /// `Check` reads the module's text from `module` and writes `ok` to `report`, and doesn't use `order_in`. `Copy` reads the module's
 /// text and the order, and writes the report of the module in that order, or the line of the order's first fault. Both write the
-/// line of the first fault of a text that isn't accepted.
+/// line of the first fault of a text that isn't accepted. `Gen` writes the text of the generated module, and uses `report` alone.
 pub fn top_plain<S: Source, T: Source, A: Sink>(
     alloc: Global,
     command: &Plain,
@@ -95,9 +103,11 @@ pub fn top_plain<S: Source, T: Source, A: Sink>(
 {
     checks_well();
     copies_well();
+    gens_well();
     match command {
         Plain::Check => check(alloc, module, report),
         Plain::Copy { reductions } => copy(alloc, *reductions, module, order_in, report),
+        Plain::Gen { seed, size } => write_generated(alloc, *seed, *size, report),
     }
 }
 
@@ -111,5 +121,15 @@ fn check<S: Source, A: Sink>(alloc: Global, source: &mut S, report: &mut A) -> S
     match open(alloc, source, report) {
         Ok(_) => reported(report, b"ok\n", Status::Done),
         Err(status) => status,
+    }
+}
+
+// Writes the text of the generated module.
+fn write_generated<A: Sink>(alloc: Global, seed: u32, size: u32, report: &mut A) -> Status
+    ensures { AnswersGen (generated seed size) result (port A.written A.faults report.old report.new) }
+{
+    match generate(alloc, seed, size) {
+        Ok(text) => reported(report, &text, Status::Done),
+        Err(_) => Status::NoMemory,
     }
 }

@@ -1,15 +1,18 @@
-// Running an accepted module.
+// Running an accepted module, which is read or generated.
 ghost use Rattle.std.specs.Prelude.{◌+◌, IfOk};
+ghost use Rattle.bits_top.specs.Answer.{AnswersLoad};
 ghost use Rattle.bits_top.specs.Copying.{code_of};
 ghost use Rattle.command_answers.specs.Answer.{AnswersRan, AnswersRun, port};
 ghost use Rattle.command_answers.specs.Stream.{ConsumesAtMost};
 ghost use Rattle.command_answers.specs.Whole.{IsRunOf};
 ghost use Rattle.erl_syntax.specs.Reading.{longest_text};
 
-use command_answers::{Status, open, reported, write_all};
+use crate::command::{Generated, MOST_REDUCTIONS};
+use command_answers::{Status, open, open_text, reported, write_all};
 use copy_run::run_module;
 use io_ports::{Sink, Source};
 use module_check::Checked;
+use module_gen::generate;
 use std::alloc::{AllocError, Global};
 use term_laws::outcome_reports;
 
@@ -69,6 +72,26 @@ pub(crate) fn run<S: Source, A: Sink, B: Sink>(
 {
     match open(alloc, source, report) {
         Ok(checked) => run_checked(alloc, &checked, reductions, report, order),
+        Err(status) => status,
+    }
+}
+
+// Runs the generated module with the most reductions.
+pub(crate) fn load<A: Sink, B: Sink>(
+    alloc: Global,
+    input: Generated,
+    report: &mut A,
+    order: &mut B,
+) -> Status
+    ensures { AnswersLoad input result
+        (port A.written A.faults report.old report.new)
+        (port B.written B.faults order.old order.new) }
+{
+    let Ok(text) = generate(alloc, input.seed, input.size) else {
+        return Status::NoMemory;
+    };
+    match open_text(alloc, &text, report) {
+        Ok(checked) => run_checked(alloc, &checked, MOST_REDUCTIONS, report, order),
         Err(status) => status,
     }
 }

@@ -1,5 +1,5 @@
 -- From what was read and written to the answer of a command.
-use Rattle.std.proofs.Common.{◌≡◌, ◌⊎◌, ℕ, ◌+◌, ◌≤◌, ◌<◌, List, ◌++◌, length, Option, Some, None, IfSome, refl, ap, sym, ◌∙◌, inl, inr, arith, append-nil, length-append, subst}
+use Rattle.std.proofs.Common.{◌≡◌, ◌⊎◌, ℕ, ◌+◌, ◌≤◌, ◌<◌, List, ◌++◌, length, Option, Some, None, IfSome, Result, Ok, Err, IfErr, refl, ap, sym, ◌∙◌, inl, inr, arith, append-nil, length-append, subst}
 use Rattle.std.specs.Io.KnownBytes.{Consumes, IsAtEnd}
 use Rattle.erl_syntax.specs.Reading.{Reads, longest_text}
 use Rattle.erl_syntax.specs.declared.checking.VarUse.{VarUse}
@@ -11,9 +11,10 @@ use Rattle.module_accept.specs.declared.accepting.Refusal.TheVariants.{Memory, L
 use Rattle.std.specs.declared.vec.Vec.{Vec}
 use Rattle.std.specs.declared.alloc.Global.{Global}
 use Rattle.term_value.specs.Tree.{Module}
-use Rattle.command_answers.specs.Answer.{Port, IsOpened, IsRefusedWith, IsUnaccepted, IsWhole, AnswersUnopened, Opened, Reports}
+use Rattle.command_answers.specs.Answer.{Port, Held, IsOpened, IsRefusedWith, IsUnaccepted, AnswersUnopened, Opened, Reports, source_of}
 use Rattle.command_answers.specs.Complete as complete
 use Rattle.command_answers.specs.Complete.{Tells, IsModule, IsNoModule, IsOrNoMemory, IsWell}
+use Rattle.command_answers.specs.Stream.{ReadsUpTo}
 use Rattle.command_answers.specs.declared.status.Status.{Status}
 use Rattle.command_answers.specs.declared.status.Status.TheVariants as s
 
@@ -32,28 +33,20 @@ held_long (Some xs) (Some ys) bytes limit h long =
     let l : length xs ≡ length bytes + length ys = ap length h ∙ length-append bytes ys in
     (xs, refl, omega arith)
 
--- what was read whole is accepted, or isn't
-pub whole_of : (source : Port) (bytes seen : List ℕ) (m : syntax.Module) → seen ≡ bytes → Consumes source.before source.after bytes → IsAtEnd source.after → length bytes ≤ longest_text → Accepts seen m → IsWhole source bytes m
-whole_of source bytes seen m same taken end short a = record { held = held_whole source.before source.after bytes taken end; ended = end; short = short; accepts = (let P : List ℕ → Type 0 = λ v. Accepts v m in subst P same a) }
-
-pub only_of : (seen bytes : List ℕ) (tree : syntax.Module) → seen ≡ bytes → ((other : syntax.Module) → Reads seen other → other ≡ tree) → (other : syntax.Module) → Reads bytes other → other ≡ tree
-only_of seen bytes tree s only = let P : List ℕ → Type 0 = λ v. (other : syntax.Module) → Reads v other → other ≡ tree in subst P s only
-
 none_accepted : (text : List ℕ) (refusal : Refusal) (line : Vec ℕ Global) → refusal ≡ Line line → (refusal ≡ Memory) ⊎ ((m : syntax.Module) → Accepts text m → ⊥) → (m : syntax.Module) → Accepts text m → ⊥
 none_accepted text refusal line is (inl e) = cc
 none_accepted text refusal line is (inr f) = f
 
-pub unaccepted : (source : Port) (bytes seen shown : List ℕ) (refusal : Refusal) (line : Vec ℕ Global) → refusal ≡ Line line → seen ≡ bytes → shown ≡ line.items → Consumes source.before source.after bytes → IsAtEnd source.after →
-    length bytes ≤ longest_text → Refuses seen refusal → (refusal ≡ Memory) ⊎ ((m : syntax.Module) → Accepts seen m → ⊥) → IsUnaccepted source bytes shown
-unaccepted source bytes seen shown refusal line is same told taken end short due none =
-    let d : IsDue seen line.items = (let P : Refusal → Type 0 = λ r. Refuses seen r in subst P is due) in
-    let n : (m : syntax.Module) → Accepts seen m → ⊥ = none_accepted seen refusal line is none in
+pub unaccepted : (text : List ℕ) (shown : List ℕ) (refusal : Refusal) (line : Vec ℕ Global) → refusal ≡ Line line → shown ≡ line.items → length text ≤ longest_text → Refuses text refusal →
+    (refusal ≡ Memory) ⊎ ((m : syntax.Module) → Accepts text m → ⊥) → IsUnaccepted (source_of text) text shown
+unaccepted text shown refusal line is told short due none =
+    let d : IsDue text line.items = (let P : Refusal → Type 0 = λ r. Refuses text r in subst P is due) in
     record {
-      held = held_whole source.before source.after bytes taken end;
-      ended = end;
+      held = refl;
+      ended = refl;
       short = short;
-      none = (let P : List ℕ → Type 0 = λ v. (m : syntax.Module) → Accepts v m → ⊥ in subst P same n);
-      due = (let P : List ℕ → Type 0 = λ v. IsDue bytes v in let Q : List ℕ → Type 0 = λ v. IsDue v line.items in subst P (sym told) (subst Q same d));
+      none = none_accepted text refusal line is none;
+      due = (let P : List ℕ → Type 0 = λ v. IsDue text v in subst P (sym told) d);
     }
 
 -- the line of a refusal is written, or the report failed
@@ -64,6 +57,39 @@ refused_answers status line source report refused (inl h) =
 refused_answers status line source report refused (inr h) =
     let P : Status → Type 0 = λ v. AnswersUnopened v source report in
     subst P (sym h.0) (record { line = line; refused = refused; reported = h.1 })
+
+-- what is said of a text is said of the source from which it was read
+
+refused_of : (source : Port) (bytes line : List ℕ) → ReadsUpTo source.before source.after longest_text bytes → IsRefusedWith (source_of bytes) line → IsRefusedWith source line
+refused_of source bytes line read h = elim h.cause [
+  | inl w ↦
+      (let e : bytes ≡ h.text = w.held in
+      let longer : longest_text < length bytes = rw e w.long in
+      let long = held_long source.before source.after bytes longest_text read.taken longer in
+      record { text = long.0; cause = inl (record { held = long.1; long = long.2; due = w.due }) })
+  | inr w ↦
+      (let e : bytes ≡ h.text = w.held in
+      let short : length bytes ≤ longest_text = rw e w.short in
+      let held : Held source bytes = held_whole source.before source.after bytes read.taken (read.whole short) in
+      record { text = h.text; cause = inr (record { held = subst (Held source) e held; ended = read.whole short; short = w.short; none = w.none; due = w.due }) })
+]
+
+unopened_of : (status : Status) (source report : Port) (bytes : List ℕ) → ReadsUpTo source.before source.after longest_text bytes → AnswersUnopened status (source_of bytes) report → AnswersUnopened status source report
+unopened_of s.Refused source report bytes read h = record { line = h.line; refused = refused_of source bytes h.line read h.refused; reported = h.reported }
+unopened_of s.ReadFault source report bytes read h = absurd (omega (arith, h.fault))
+unopened_of s.ReportFault source report bytes read h = record { line = h.line; refused = refused_of source bytes h.line read h.refused; reported = h.reported }
+unopened_of s.NoMemory source report bytes read h = h
+unopened_of s.Done source report bytes read h = absurd h
+unopened_of s.Usage source report bytes read h = absurd h
+unopened_of s.OrderFault source report bytes read h = absurd h
+unopened_of s.BadOrder source report bytes read h = absurd h
+
+pub answers_of : {T : Type 0} (result : Result T Status) (source report : Port) (seen bytes : List ℕ) → seen ≡ bytes → ReadsUpTo source.before source.after longest_text bytes →
+    IfErr result (λ status. AnswersUnopened status (source_of seen) report) → IfErr result (λ status. AnswersUnopened status source report)
+answers_of (Ok opened) source report seen bytes same read h = tt
+answers_of (Err status) source report seen bytes same read h =
+    let P : List ℕ → Type 0 = λ v. AnswersUnopened status (source_of v) report in
+    unopened_of status source report bytes read (subst P same h)
 
 -- where no port fails
 

@@ -12,8 +12,8 @@ use Rattle.term_value.specs.ReadTrees.{module_of}
 use Rattle.term_value.specs.Tree.{Module}
 use Rattle.term_value.specs.declared.entry.Entry.{Entry}
 use Rattle.report_text.specs.Laws.{OrderOrFault}
-use Rattle.command_answers.specs.Answer.{Port, Held, AnswersCheck, AnswersCopied, AnswersCopy, AnswersRan, AnswersRun, IsOpened, Reports}
-use Rattle.command_answers.specs.Complete.{AreGiven, ChecksWell, CopiesWell, RunsWell, Tells, IsModule, IsOrNoMemory, IsWell}
+use Rattle.command_answers.specs.Answer.{Port, Held, AnswersCheck, AnswersCopied, AnswersCopy, AnswersGen, AnswersRan, AnswersRun, IsOpened, Reports}
+use Rattle.command_answers.specs.Complete.{AreGiven, ChecksWell, CopiesWell, GensWell, RunsWell, Tells, IsModule, IsOrNoMemory, IsWell}
 use Rattle.command_answers.specs.Laws.{BadOrLegal}
 use Rattle.command_answers.specs.Whole.{IsReplayOf}
 use Rattle.command_answers.specs.declared.status.Status.{Status}
@@ -33,6 +33,10 @@ checks_well status source report h = record {
   finds = check_finds status source report h;
   refuses = refuses status source report (Unit {0}) (λ code. Reports s.Done (codes "ok\n") status report) (with_nothing h);
 }
+
+pub gens_well : (text : List ℕ) (status : Status) (report : Port) → AnswersGen text status report → GensWell status report
+gens_well text status report (inl h) = λ well. inr h.0
+gens_well text status report (inr h) = λ well. inl (reports_good s.Done status text report h well)
 
 ran_done : (reductions : ℕ) (status : Status) (report order : Port) (code : Module) → AnswersRan reductions status report order code → IsWell report → IsWell order → IsOrNoMemory s.Done status
 ran_done reductions s.Done report order code h well order_well = inl refl

@@ -1,5 +1,5 @@
 -- What each answer of a command says of the ports (this project's own).
-use Rattle.std.specs.Prelude.{◌≡◌, ◌⊎◌, ℕ, ◌≤◌, ◌<◌, List, length, codes, Option, IfSome}
+use Rattle.std.specs.Prelude.{◌≡◌, ◌⊎◌, ℕ, ◌≤◌, ◌<◌, List, [], length, codes, Option, Some, IfSome}
 use Rattle.std.specs.Io.KnownBytes.{Appends, IsAtEnd}
 use Rattle.io_ports.specs.Causes.{Rose}
 use Rattle.command_answers.specs.Stream.{AppendsPrefix}
@@ -25,6 +25,10 @@ pub record Port : Type 0 where
 
 abbrev pub port : {X : Type 0} → (X → Option (List ℕ)) → (X → ℕ) → X → X → Port
 port told faults old new = record { before = told old; after = told new; faults_before = faults old; faults_after = faults new }
+
+-- the port of a source that held this text and was read to its end, without a fault: so a text that no port gave stands in a source's place
+abbrev pub source_of : List ℕ → Port
+source_of text = record { before = Some text; after = Some []; faults_before = 0; faults_after = 0 }
 
 -- its count of faults rose in the call
 abbrev pub Faulted : Port → Type 0
@@ -126,6 +130,12 @@ AnswersFound status report = Reports s.Done (codes "ok\n") status report
 -- What the answer to `check` says.
 abbrev pub AnswersCheck : Status → Port → Port → Type 0
 AnswersCheck status source report = AnswersUnopened status source report ⊎ Opened source (λ code. AnswersFound status report)
+
+-- ---- `gen`
+
+-- What the answer to `gen` says, to which this text is due. Want of memory may come before the first byte is written.
+abbrev pub AnswersGen : List ℕ → Status → Port → Type 0
+AnswersGen text status report = ((status ≡ s.NoMemory) × Untouched report) ⊎ Reports s.Done text status report
 
 -- ---- `run`
 

@@ -43,6 +43,10 @@ pub record ChecksWell (status : Status) (source report : Port) : Type 0 where
   pub finds : (text : List ℕ) (tree : Module) → Tells source text → IsModule text tree → IsWell report → IsOrNoMemory s.Done status
   pub refuses : Refuses status source report
 
+-- a text that is due whatever the sources hold
+abbrev pub GensWell : Status → Port → Type 0
+GensWell status report = IsWell report → IsOrNoMemory s.Done status
+
 pub record RunsWell (status : Status) (source report order : Port) : Type 0 where
   pub runs : (text : List ℕ) (tree : Module) → Tells source text → IsModule text tree → IsWell report → IsWell order → IsOrNoMemory s.Done status
   pub refuses : Refuses status source report

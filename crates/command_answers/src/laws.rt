@@ -1,5 +1,5 @@
 // Laws of answers, each the contract of a function that does nothing but call other laws.
-ghost use Rattle.command_answers.specs.Laws.{BadOrLegal, AnsweredChecks, AnsweredCopies, AnsweredRuns};
+ghost use Rattle.command_answers.specs.Laws.{BadOrLegal, AnsweredChecks, AnsweredCopies, AnsweredGens, AnsweredRuns};
 
 use module_check::one_numbering;
 use report_text::{one_order, order_or_fault};
@@ -15,6 +15,11 @@ pub fn bad_or_legal()
 /// Where no port fails, `check` finds an accepted module and refuses every other text, or memory was wanting.
 pub fn checks_well()
     ensures { AnsweredChecks }
+{}
+
+/// Where the report doesn't fail, `gen` writes its text, or memory was wanting.
+pub fn gens_well()
+    ensures { AnsweredGens }
 {}
 
 /// Where no port fails, `run` runs an accepted module and refuses every other text, or memory was wanting.

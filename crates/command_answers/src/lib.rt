@@ -7,7 +7,7 @@ mod opening;
 mod status;
 mod streams;
 
-pub use laws::{bad_or_legal, checks_well, copies_well, runs_well};
-pub use opening::{open, reported};
+pub use laws::{bad_or_legal, checks_well, copies_well, gens_well, runs_well};
+pub use opening::{open, open_text, reported};
 pub use status::Status;
 pub use streams::{ReadError, read_all, write_all};

@@ -1,6 +1,6 @@
 // The module of a command: its text is read and accepted, or refused. It is the same for all commands.
 ghost use Rattle.std.specs.Prelude.{◌+◌, ◌≡◌, List, ℕ, IfErr, IfOk, OnOk};
-ghost use Rattle.command_answers.specs.Answer.{AnswersUnopened, IsOpened, Reports, port};
+ghost use Rattle.command_answers.specs.Answer.{AnswersUnopened, IsOpened, Reports, port, source_of};
 ghost use Rattle.command_answers.specs.Stream.{ConsumesAtMost};
 ghost use Rattle.erl_syntax.specs.Reading.{longest_text};
 
@@ -35,10 +35,26 @@ pub fn open<S: Source, A: Sink>(
         Err(ReadError::Fault) => return Err(Status::ReadFault),
         Err(ReadError::Memory) => return Err(Status::NoMemory),
     };
+    open_text(alloc, &text, report)
+}
+
+/// The accepted module of a text.
+///
+/// # Errors
+///
+/// What the command answers without a module, as of a source that holds the text: the text is refused, and the line of its first
+/// fault is the report; the report failed; or memory was wanting.
+pub fn open_text<A: Sink>(alloc: Global, text: &[u8], report: &mut A) -> Result<Checked, Status>
+    ensures opened { IfOk result (λ checked. IsOpened (source_of text.now) checked.tree checked.vars.items) }
+    ensures kept { OnOk result (report.new ≡ report.old) }
+    ensures unopened { IfErr result (λ status. AnswersUnopened status
+        (source_of text.now)
+        (port A.written A.faults report.old report.new)) }
+{
     if text.len() > LONGEST_TEXT {
         return Err(reported(report, b"1:1: text too long\n", Status::Refused));
     }
-    match accept(alloc, &text) {
+    match accept(alloc, text) {
         Ok(checked) => Ok(checked),
         Err(Refusal::Line(line)) => Err(reported(report, &line, Status::Refused)),
         Err(Refusal::Memory) => Err(Status::NoMemory),

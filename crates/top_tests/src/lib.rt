@@ -6,6 +6,8 @@ mod calling;
 #[cfg(test)]
 mod copy_tests;
 #[cfg(test)]
+mod gen_tests;
+#[cfg(test)]
 mod port_tests;
 #[cfg(test)]
 mod run_tests;

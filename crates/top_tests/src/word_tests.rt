@@ -10,7 +10,7 @@ const EMPTY_ORDER: &[u8] = b"shown 1\nended 1\ngone 1 0 0 0\n";
 #[test]
 fn other_words_touch_no_port(rt: HostRuntime) -> Result<(), Fail> {
     let alloc = rt.alloc();
-    let rows: [&[&str]; 25] = [
+    let rows: [&[&str]; 53] = [
         &[],
         &["run", "m.erl", "o.txt"],
         &["run", "m.erl", "o.txt", "2"],
@@ -35,7 +35,35 @@ fn other_words_touch_no_port(rt: HostRuntime) -> Result<(), Fail> {
         &["copy", "m.erl", "o.txt", "4000001"],
         &["copy", "m.erl", "o.txt", "010"],
         &["Copy", "m.erl", "o.txt", "10"],
-        &["load", "1", "1", "2"],
+        &["gen"],
+        &["gen", "1"],
+        &["gen", "1", "1", "2"],
+        &["Gen", "1", "1"],
+        &["gen", "", "1"],
+        &["gen", "4294967296", "1"],
+        &["gen", "01", "1"],
+        &["gen", "00", "1"],
+        &["gen", "+1", "1"],
+        &["gen", "-1", "1"],
+        &["gen", "1 ", "1"],
+        &["gen", "1", ""],
+        &["gen", "1", "0"],
+        &["gen", "1", "100001"],
+        &["gen", "1", "01"],
+        &["gen", "1", "1.0"],
+        &["load"],
+        &["load", "1", "1"],
+        &["load", "1", "1", "2", "10"],
+        &["Load", "1", "1", "2"],
+        &["load", "4294967296", "1", "2"],
+        &["load", "01", "1", "2"],
+        &["load", "1", "0", "2"],
+        &["load", "1", "100001", "2"],
+        &["load", "1", "+1", "2"],
+        &["load", "1", "1", "0"],
+        &["load", "1", "1", "65"],
+        &["load", "1", "1", "02"],
+        &["load", "1", "1", ""],
     ];
     let text = module(alloc, EMPTY)?;
     let held = Held {

@@ -24,6 +24,21 @@ pub returns-in-Some-Run-clause-complete : goal.returns-in-Some-Run-clause-comple
 returns-in-Some-Run-clause-complete g c =
     all_do_well _ c.in-Some-Run.field-0 (made.Run c.in-Some-Run.asked) c.run.result _ _ _ _ c.in-Some-Run.field-0-is c.in-Some-Run.ensures (c.runs_well.ensures _ c.run.result _ _ _ c.run.ensures.answer)
 
+pub returns-in-Some-Load-clause-usage : goal.returns-in-Some-Load-clause-usage
+returns-in-Some-Load-clause-usage g c =
+    usage_for_none _ c.in-Some-Load.field-0 c.load.result c.in-Some-Load.ensures (no_usage_run _ c.load.result _ _ _ c.load.ensures)
+
+pub returns-in-Some-Load-clause-idle : goal.returns-in-Some-Load-clause-idle
+returns-in-Some-Load-clause-idle g c = λ e. absurd (no_usage_run _ c.load.result _ _ _ c.load.ensures e)
+
+pub returns-in-Some-Load-clause-answers : goal.returns-in-Some-Load-clause-answers
+returns-in-Some-Load-clause-answers g c =
+    answers_all _ c.in-Some-Load.field-0 (made.Load c.in-Some-Load.asked) c.load.result _ _ _ _ c.in-Some-Load.field-0-is c.in-Some-Load.ensures (c.load.ensures, record { told = refl; count = refl }, record { told = refl; count = refl })
+
+pub returns-in-Some-Load-clause-complete : goal.returns-in-Some-Load-clause-complete
+returns-in-Some-Load-clause-complete g c =
+    all_do_well _ c.in-Some-Load.field-0 (made.Load c.in-Some-Load.asked) c.load.result _ _ _ _ c.in-Some-Load.field-0-is c.in-Some-Load.ensures (c.runs_well.ensures _ c.load.result _ _ _ c.load.ensures)
+
 pub returns-in-Some-Plain-clause-usage : goal.returns-in-Some-Plain-clause-usage
 returns-in-Some-Plain-clause-usage g c =
     usage_for_none _ c.in-Some-Plain.field-0 c.top_plain.result c.in-Some-Plain.ensures (no_usage_plain c.in-Some-Plain.plain c.top_plain.result _ _ _ c.top_plain.ensures.answers)
