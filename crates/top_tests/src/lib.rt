@@ -10,6 +10,8 @@ mod gen_tests;
 #[cfg(test)]
 mod port_tests;
 #[cfg(test)]
+mod process_tests;
+#[cfg(test)]
 mod run_tests;
 #[cfg(test)]
 mod word_tests;

@@ -10,10 +10,10 @@ use std::thread::Threads;
 type Row = (&'static str, &'static str, &'static str);
 
 // Runs a row's module, and replays the order of its run: both give the report that is due.
-fn run_and_copy(
+pub(crate) fn run_and_copy(
     rt: &(impl Abort + Threads + Wait + Sync),
     alloc: Global,
-    row: Row,
+    row: (&str, &str, &str),
 ) -> Result<Answer, Fail> {
     let (forms, reductions, report) = row;
     let text = module(alloc, forms)?;
