@@ -1,0 +1,4 @@
+pub mod Reaching
+pub mod Wanting
+pub mod Binding
+pub mod Running

@@ -1,0 +1,4 @@
+pub mod Envs
+pub mod Contexts
+pub mod Runs
+pub mod Places
