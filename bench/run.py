@@ -86,6 +86,19 @@ def processes(n):
     )
 
 
+def passed_over(n):
+    """A receive that waits while messages come that it doesn't take."""
+    return HEAD + UNUSED_ECHO + (
+        f"main() -> spawn(m, sink, [self(), {n}]), receive done -> ok end.\n"
+        "sink(Parent, 0) -> Parent ! done;\nsink(Parent, N) -> Parent ! N, sink(Parent, N - 1).\n"
+    )
+
+
+def collected(n):
+    """Bits that a comprehension collects, byte by byte."""
+    return HEAD + UNUSED + f"main() -> << <<(Byte bxor 1)>> || <<Byte>> <= <<0:({n} * 8)>> >>.\n"
+
+
 def displays(n):
     return HEAD + UNUSED + f"main() -> show({n}).\nshow(0) -> ok;\nshow(N) -> erlang:display({{shown, N}}), show(N - 1).\n"
 
@@ -99,17 +112,22 @@ KINDS = {
     "messages of a process to itself": (mailbox, 100_000),
     "messages between two processes": (talk, 100_000),
     "a thousand processes' messages": (processes, 100),
+    "messages that a receive passes over": (passed_over, 4_000),
+    "bits collected by a comprehension": (collected, 65_536),
     "displays": (displays, 100_000),
 }
 
 
 def spent_by(words, folder):
-    """The processor's time of a run in the folder, which has to end with status 0."""
-    process = subprocess.Popen(words, cwd=folder, stdout=subprocess.DEVNULL)
-    _, status, used = os.wait4(process.pid, 0)
-    process.returncode = os.waitstatus_to_exitcode(status)
-    if process.returncode != 0:
-        sys.exit(f"{' '.join(words)}: status {process.returncode}")
+    """The processor's time of a run in the folder, which has to end with status 0, and each process of the module normally."""
+    with tempfile.TemporaryFile() as report:
+        process = subprocess.Popen(words, cwd=folder, stdout=report)
+        _, status, used = os.wait4(process.pid, 0)
+        process.returncode = os.waitstatus_to_exitcode(status)
+        report.seek(0)
+        ends = [line.decode().strip() for line in report if line.startswith((b"exit ", b"waiting "))]
+    if process.returncode != 0 or ends:
+        sys.exit(f"{' '.join(words)}: status {process.returncode} {' '.join(ends)}")
     return used.ru_utime + used.ru_stime
 
 

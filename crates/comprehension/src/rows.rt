@@ -79,8 +79,8 @@ impl<R: Share + Drop> Rows<R> {
         requires shape_sizes { All (λ op. SizeFits (E.fixed env.old).sizes (given (size_form op))) self.old.shape.ops }
         ensures is { (bs : List Bound) → Agrees (S.shown store.now) (E.held env.old) bs
             → IsNext (S.shown store.now) (E.held env.new)
-                (rows_left (S.shown store.now) (E.fixed env.old) bs self.new)
-                (rows_left (S.shown store.now) (E.fixed env.old) bs self.old) result }
+            (rows_left (S.shown store.now) (E.fixed env.old) bs self.new)
+            (rows_left (S.shown store.now) (E.fixed env.old) bs self.old) result }
         ensures unbound { StaysIfNone result (E.held env.old) (E.held env.new) }
         ensures others { (x : ℕ) → one_binds (map wants self.old.pattern.ops) x ≡ false → E.held env.new x ≡ E.held env.old x }
         ensures done { StaysDone result self.old self.new }
@@ -108,7 +108,7 @@ impl<R: Share + Drop> Rows<R> {
         requires shape_sizes { All (λ op. SizeFits (E.fixed env.old).sizes (given (size_form op))) self.old.shape.ops }
         ensures is { (bs : List Bound) → Agrees (S.shown store.now) (E.held env.old) bs
             → IsFront (S.shown store.now) (E.held env.new) (left (S.shown store.now) self.new.context)
-                (front (E.fixed env.old).setting (means (E.fixed env.old).trees self.old.pattern.ops) (means (E.fixed env.old).trees self.old.shape.ops) bs (left (S.shown store.now) self.old.context)) result }
+            (front (E.fixed env.old).setting (means (E.fixed env.old).trees self.old.pattern.ops) (means (E.fixed env.old).trees self.old.shape.ops) bs (left (S.shown store.now) self.old.context)) result }
         ensures unbound { StaysIfNone result (E.held env.old) (E.held env.new) }
         ensures others { (x : ℕ) → one_binds (map wants self.old.pattern.ops) x ≡ false → E.held env.new x ≡ E.held env.old x }
         ensures moved { MovesIfFound result self.old self.new }
@@ -139,7 +139,7 @@ impl<R: Share + Drop> Rows<R> {
         requires shape_sizes { All (λ op. SizeFits (E.fixed env.old).sizes (given (size_form op))) self.old.shape.ops }
         ensures is { (bs : List Bound) → Agrees (S.shown store.now) (E.held env.old) bs
             → IsFront (S.shown store.now) (E.held env.new) (left (S.shown store.now) self.new.context)
-                (skips (left (S.shown store.now) self.old.context) (all_taken (E.fixed env.old).setting (means (E.fixed env.old).trees self.old.shape.ops) bs (left (S.shown store.now) self.old.context))) result }
+            (skips (left (S.shown store.now) self.old.context) (all_taken (E.fixed env.old).setting (means (E.fixed env.old).trees self.old.shape.ops) bs (left (S.shown store.now) self.old.context))) result }
         ensures before { AsBefore (E.held env.old) (E.held env.new) }
         ensures moved { MovesIfFound result self.old self.new }
         ensures context { IsContext (S.shown store.now) (S.has store.now) self.new.context }

@@ -1,5 +1,5 @@
 -- Variables that are bound, and that are taken away again.
-use Rattle.std.proofs.Common.{◌≡◌, ℕ, ◌+◌, ◌<◌, ◌≤◌, Bool, true, false, cond, List, [], ◌∷◌, ◌++◌, map, length, get_or, take, drop, Option, Some, None, refl, ap, sym, subst, ◌∙◌, eqb-true, arith}
+use Rattle.std.proofs.Common.{◌≡◌, ℕ, ◌+◌, ◌<◌, ◌≤◌, Bool, true, false, cond, List, [], ◌∷◌, map, length, get_or, drop, Option, Some, None, refl, ap, sym, subst, ◌∙◌, eqb-true}
 use Rattle.std.specs.Prelude.{◌||◌, nat_eq, is_some, option_map, All, IfSome}
 use Rattle.std.proofs.lemmas.List.{at_drop_more, drop_all}
 use Rattle.std.proofs.lemmas.List.Elements.{All-nil, All-cons}
@@ -15,7 +15,6 @@ use Rattle.pattern_compile.specs.Meaning.{wants}
 use Rattle.pattern_compile.specs.Patterns.{TargetFits, TargetsFit, TargetInRange, binds, also, one_binds}
 use Rattle.pattern_compile.specs.declared.pattern.Target.{Target}
 use Rattle.pattern_compile.specs.declared.pattern.Target.TheVariants.{Bind, Same, Any}
-use Rattle.pattern_compile.specs.declared.pattern.Want.TheVariants.{Literal, Var}
 use Rattle.pattern_compile.specs.declared.operation.Operation.{Operation}
 use Rattle.match_context.specs.Envs.{Fixed, Agrees, AreThere, known}
 use Rattle.match_context.specs.Runs.{AsBefore}

@@ -3,7 +3,6 @@ use Rattle.std.proofs.Common.{◌≡◌, ℕ, ℤ, pos, negsuc, List, Option, So
 use Rattle.bits_build.specs.Extents.{IsExtent}
 use Rattle.bits_build.specs.declared.extent.Extent.{Extent}
 use Rattle.bits_build.specs.declared.extent.Extent.TheVariants as x
-use Rattle.erl_syntax.specs.declared.typing.SizeUse.{SizeUse}
 use Rattle.erl_syntax.specs.declared.typing.SizeUse.TheVariants as u
 use Rattle.erl_syntax.specs.declared.typing.Typed.{Typed}
 use Rattle.term_value.specs.Decode as d

@@ -1,10 +1,9 @@
 -- Operations one by one.
-use Rattle.std.proofs.Common.{◌≡◌, ℕ, zero, suc, ◌+◌, ◌<◌, ◌≤◌, Bool, true, false, List, [], ◌∷◌, map, length, get_or, drop, Option, Some, None, refl, ap, sym, subst, ◌∙◌, arith, length-drop}
+use Rattle.std.proofs.Common.{◌≡◌, ℕ, zero, suc, ◌+◌, ◌<◌, ◌≤◌, Bool, true, false, List, [], ◌∷◌, map, length, get_or, drop, refl, ap, sym, subst, ◌∙◌, arith, length-drop}
 use Rattle.std.specs.Prelude.{◌||◌}
 use Rattle.std.proofs.lemmas.List.{at_drop_more, drop_all}
 use Rattle.term_value.specs.Decode as d
 use Rattle.term_value.specs.Match.{then_take, all_taken}
-use Rattle.term_value.specs.Setting.{Setting}
 use Rattle.term_value.specs.Tree as t
 use Rattle.pattern_compile.specs.Meaning.{means, typed_of, target_of, sizes_of, wants, size_form}
 use Rattle.pattern_compile.specs.Patterns.{TargetFits, TargetsFit, also, binds, one_binds}

@@ -20,7 +20,6 @@ use Rattle.term_value.specs.Terms.{seen, value_of}
 use Rattle.term_value.specs.Tree as t
 use Rattle.term_value.specs.Value.{Value, Values, VInt, VAtom, VPid, VTuple, VList, VBits}
 use Rattle.term_value.specs.declared.term.Term.{Term}
-use Rattle.match_context.specs.Envs.{Agrees, known}
 use Rattle.pattern_compile.specs.Meaning.{typed_of, target_of, sizes_of, wants, size_form}
 use Rattle.pattern_compile.specs.declared.operation.Operation.{Operation}
 use Rattle.pattern_compile.specs.declared.pattern.SizeForm.{SizeForm}

@@ -1,5 +1,5 @@
 -- Environments as contracts see them (this project's own; a bound variable stands for its value: Erlang Reference Manual, "Variables").
-use Rattle.std.specs.Prelude.{◌≡◌, ℕ, ℤ, pos, Bool, List, Option, Some, None, is_some, option_map, IfSome}
+use Rattle.std.specs.Prelude.{◌≡◌, ℕ, pos, Bool, List, Option, is_some, option_map, IfSome}
 use Rattle.bit_store.specs.Stores.{AnyAtom}
 use Rattle.term_value.specs.PutIn.{value_in}
 use Rattle.term_value.specs.Result.{Result, Gives, Stops, Raise, Limit}

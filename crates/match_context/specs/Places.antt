@@ -17,7 +17,7 @@ use Rattle.term_value.specs.Tree as t
 use Rattle.term_value.specs.Value.{Value, VInt, VBits}
 use Rattle.term_value.specs.declared.term.Term.TheVariants.{Int, Bits}
 use Rattle.pattern_compile.specs.declared.pattern.Target.{Target}
-use Rattle.pattern_compile.specs.declared.pattern.Target.TheVariants.{Bind, Same, Any}
+use Rattle.pattern_compile.specs.declared.pattern.Target.TheVariants.{Bind}
 use Rattle.pattern_compile.specs.Patterns.{binds, also}
 use Rattle.match_context.specs.Envs.{Agrees}
 use Rattle.match_context.specs.declared.matching.Place.{Place}

@@ -6,7 +6,7 @@ ghost use Rattle.bits_value.specs.Ledger.{ticked};
 ghost use Rattle.bits_value.specs.declared.TheConstants.{MAX_BITS};
 ghost use Rattle.bit_store.specs.Pieces.{piece_bits, pieces_bits, HasPiece, IsInside};
 ghost use Rattle.bit_store.specs.Stores.{Keeps, RoseBy, Refuses};
-ghost use Rattle.write_room.specs.Rooms.{HasTaken, spare_of};
+ghost use Rattle.write_room.specs.Rooms.{HasTaken, grown_bytes, spare_of};
 ghost use Rattle.off_heap.specs.Cells.{cell_at, bits_in, Valid, shown, IsSmall, IsRoom, room_in, room_under, Latest, InPlace, InNewCell, RefusesIn};
 ghost use Rattle.off_heap.specs.Writing.{with_room, IsThere, IsOwn, IsOther, HasExtended};
 
@@ -119,6 +119,7 @@ impl Heap {
         ensures latest { IfOk result (λ made. Latest self.new.cells made) }
         ensures in_place { Latest self.old.cells to.now → IfOk result (λ made. InPlace self.old.cells self.new.cells to.now made) }
         ensures in_new_room { (Latest self.old.cells to.now → ⊥) → IfOk result (λ made. InNewCell self.old.cells self.new.cells made) }
+        ensures new_size { (Latest self.old.cells to.now → ⊥) → IfOk result (λ made. (room_under self.new.cells made).size ≡ 8 * grown_bytes (length (shown self.new.cells made))) }
         ensures moved { IfOk result (λ made. RoseBy (length (shown self.new.cells made)) steps.old.moved steps.new.moved) }
         ensures moved_in_place { Latest self.old.cells to.now → IfOk result (λ made. HasTaken (room_under self.old.cells to.now) (room_under self.new.cells made) steps.old.moved steps.new.moved (length (pieces_bits (shown self.old.cells) pieces.now))) }
         ensures moved_to_new { (Latest self.old.cells to.now → ⊥) → IfOk result (λ made. steps.new.moved ≡ ticked steps.old.moved (length (shown self.new.cells made))) }
@@ -253,6 +254,7 @@ impl Heap {
         ensures shows { IfOk result (λ made. shown self.new.cells made ≡ shown self.old.cells to.now ++ pieces_bits (shown self.old.cells) pieces.now) }
         ensures latest { IfOk result (λ made. Latest self.new.cells made) }
         ensures in_new_room { IfOk result (λ made. InNewCell self.old.cells self.new.cells made) }
+        ensures new_size { IfOk result (λ made. (room_under self.new.cells made).size ≡ 8 * grown_bytes (length (shown self.new.cells made))) }
         ensures moved { OnOk result (steps.new.moved ≡ ticked steps.old.moved (length (shown self.old.cells to.now) + added)) }
         ensures stands { OnErr result (self.new ≡ self.old) }
         ensures unmoved { OnErr result (steps.new ≡ steps.old) }

@@ -533,3 +533,35 @@ fn arguments_are_counted(rt: HostRuntime) -> Result<(), Fail> {
     }
     Ok(())
 }
+
+/// `display` and `spawn` act, and have no value here: `badarg`, whatever they are given. This language's own.
+const ACTS: &[Row] = &[
+    (BuiltIn::Display, &[Given::Number(1)], BAD_ARGUMENT),
+    (BuiltIn::Display, &[OK], BAD_ARGUMENT),
+    (BuiltIn::Display, &[Given::Pid(1)], BAD_ARGUMENT),
+    (BuiltIn::Display, &[Given::Tuple(&[1])], BAD_ARGUMENT),
+    (BuiltIn::Display, &[EMPTY], BAD_ARGUMENT),
+    (BuiltIn::Display, &[Given::Binary(b"a")], BAD_ARGUMENT),
+    (BuiltIn::Display, &[Given::Bits(1)], BAD_ARGUMENT),
+    (BuiltIn::Display, &[], BAD_ARGUMENT),
+    (BuiltIn::Display, &[OK, OK], BAD_ARGUMENT),
+    (BuiltIn::Spawn, &[OK, OK, EMPTY], BAD_ARGUMENT),
+    (BuiltIn::Spawn, &[Given::Number(1), OK, EMPTY], BAD_ARGUMENT),
+    (
+        BuiltIn::Spawn,
+        &[OK, Given::Binary(b"a"), EMPTY],
+        BAD_ARGUMENT,
+    ),
+    (BuiltIn::Spawn, &[OK, OK, OK], BAD_ARGUMENT),
+    (BuiltIn::Spawn, &[OK, OK], BAD_ARGUMENT),
+    (BuiltIn::Spawn, &[OK], BAD_ARGUMENT),
+    (BuiltIn::Spawn, &[], BAD_ARGUMENT),
+];
+
+#[test]
+fn acts_have_no_value(rt: HostRuntime) -> Result<(), Fail> {
+    for row in ACTS {
+        assert!(rt; answers(rt.alloc(), row));
+    }
+    Ok(())
+}

@@ -2,14 +2,17 @@ ghost use Rattle.std.specs.Prelude.{◌≡◌, ◌≤◌, ◌*◌, ◌<◌, leng
 
 use bits_value::{Bits, Frozen};
 use erl_syntax::{Op, Text};
+use report_text::{entry_is_line, one_order};
 use std::alloc::{AllocError, Global};
 use std::cmp::Ordering;
 use std::test::Fail;
+use term_laws::{
+    calls_are_read, character_reads_back, complete_is_last, each_asks, equal_is_same, free_shrinks,
+    guards_contract, integer_reads_back, legal_is_short, names_by_characters, order_is_total,
+    outcome_reports,
+};
 use term_value::{
-    Arith, Cells, Look, Term, arith, calls_are_read, character_reads_back, compare,
-    complete_is_last, depth, each_asks, entry_is_line, equal_is_same, free_shrinks,
-    guards_contract, integer_reads_back, legal_is_short, list_of, names_by_characters, one_order,
-    order_is_total, outcome_reports, show, tuple_of, weight,
+    Arith, Cells, Look, Term, arith, compare, depth, list_of, show, tuple_of, weight,
 };
 
 /// Atoms by a table of names, and bitstrings that are their own references.

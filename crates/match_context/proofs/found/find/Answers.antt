@@ -1,5 +1,5 @@
-use Rattle.std.proofs.Common.{◌≡◌, Some, None, drop, subst}
-use Rattle.segment_cut.specs.Cuts.{IsCut, IsCutOff}
+use Rattle.std.proofs.Common.{Some, None, drop, subst}
+use Rattle.segment_cut.specs.Cuts.{IsCut}
 use Rattle.term_value.specs.Decode as d
 use Rattle.pattern_compile.specs.Meaning.{wants}
 use Rattle.match_context.proofs.Wanting.{off_has, off_found, none_found}

@@ -1,7 +1,3 @@
-use Rattle.std.proofs.Common.{◌≡◌, Some, sym, subst}
-use Rattle.term_value.specs.Decode as d
-use Rattle.pattern_compile.specs.Meaning.{sizes_of}
-use Rattle.match_context.specs.Places.{IsReached}
 use Rattle.match_context.proofs.Reaching.{no_size, some_size}
 use Rattle.match_context.proofs.found.length_of.Goals as goal
 

@@ -1,6 +1,6 @@
 use Rattle.match_context.proofs.Binding.{bound_agrees}
 use Rattle.match_context.proofs.Wanting.{not_known}
-use Rattle.std.proofs.Common.{◌≡◌, subst}
+use Rattle.std.proofs.Common.{subst}
 use Rattle.term_value.specs.Decode.{bound_to}
 use Rattle.term_value.specs.Terms.{value_of}
 use Rattle.pattern_compile.specs.Patterns.{TargetFits}

@@ -1,4 +1,4 @@
-use Rattle.std.proofs.Common.{◌≡◌, ◌∙◌, false, drop, sym, arith}
+use Rattle.std.proofs.Common.{◌∙◌, false, drop, sym}
 use Rattle.bits_value.specs.declared.Sign.TheVariants.{Unsigned}
 use Rattle.bits_value.specs.declared.Endian.TheVariants.{Big}
 use Rattle.term_value.specs.Decode as d

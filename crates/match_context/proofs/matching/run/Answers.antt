@@ -1,5 +1,4 @@
 use Rattle.std.proofs.Common.{◌≡◌, ◌∙◌, ◌<◌, true, List, length, map, ap, sym, refl, rules, arith}
-use Rattle.term_value.specs.Decode as d
 use Rattle.term_value.specs.Match.{all_taken}
 use Rattle.pattern_compile.specs.Meaning.{means, wants}
 use Rattle.pattern_compile.specs.Patterns.{one_binds}

@@ -5,7 +5,7 @@ use Rattle.pattern_compile.specs.Meaning.{means, wants}
 use Rattle.match_context.proofs.Binding.{as_before}
 use Rattle.match_context.specs.Contexts.{left}
 use Rattle.match_context.specs.Envs.{known}
-use Rattle.comprehension.proofs.Fronts.{moved, stands, row_found, row_none, row_skips, front_same, same_agrees, skips_same, range_kept}
+use Rattle.comprehension.proofs.Fronts.{stands, row_none, row_skips, front_same, same_agrees, skips_same, range_kept}
 use Rattle.comprehension.proofs.rows.Rows.front.Goals as goal
 
 pub release-requires : goal.release-requires
