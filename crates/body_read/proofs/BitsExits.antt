@@ -10,23 +10,23 @@ use Rattle.erl_syntax.specs.declared.segment.Segment.{Segment}
 use Rattle.erl_syntax.specs.declared.qual.Qual.{Qual}
 use Rattle.erl_syntax.specs.Word.{Word}
 use Rattle.erl_syntax.specs.Grammar.{InBody, InSize, Context, under, inside}
-use Rattle.pattern_read.specs.Source.{StandsAt}
-use Rattle.pattern_read.specs.declared.source.Numbered.{Numbered}
+use Rattle.pattern_read.specs.Cursor.{StandsAt}
+use Rattle.pattern_read.specs.declared.cursor.Numbered.{Numbered}
 use Rattle.pattern_read.specs.declared.placed.Placed.{Placed}
 use Rattle.pattern_read.specs.declared.fault.Cause.{Cause}
 use Rattle.pattern_read.specs.declared.fault.Cause.TheVariants.{Syntax, TooDeep}
 use Rattle.pattern_read.specs.declared.fault.Fault.{Fault}
 use Rattle.pattern_read.specs.Reading.{Passes, IsRefused, Gives, closed}
 use Rattle.pattern_read.specs.Wanted.{IsAt, NoMark}
-use Rattle.body_read.specs.declared.setting.Setting.{Setting}
-use Rattle.body_read.specs.declared.setting.Setting.TheVariants.{Body as AsBody, Guard as AsGuard}
+use Rattle.body_read.specs.declared.site.Site.{Site}
+use Rattle.body_read.specs.declared.site.Site.TheVariants.{Body as AsBody, Guard as AsGuard}
 use Rattle.body_read.specs.WantedExprs.{bits_in, in_body, mode_of, quals_in, segment_in, segment_longer, segment_rest_in, simple_in}
 use Rattle.body_read.specs.WantedSegments.{prefixed_in, more_segments_in, after_value_in, begins_simple, PrefixAt, NoPrefix, NoRow, GivesBehind}
 use Rattle.pattern_read.specs.WantedPatterns.{FirstToken, only_deeper, at_end, at_other}
 use Rattle.pattern_read.proofs.Passing.{same_kinds, behind_closed, and_then, refused_after, first_of_two, at_token, at_place, refused_at, remade, fault_after, fault_first}
 use Rattle.pattern_read.proofs.Levels.{same_pair}
 use Rattle.body_read.proofs.BitsLaws.{on_no_bits, with_segments, on_signed_bits, signed_bits_deep, on_bits_value, value_completed, value_too_deep, no_value_there, no_value_at_end, on_more_segments, on_end_segments, segments_refused, behind_segment, segments_spelled, on_bits_row, on_bits_segments}
-use Rattle.pattern_read.specs.Source.{Readable}
+use Rattle.pattern_read.specs.Cursor.{Readable}
 use Rattle.erl_syntax.specs.Grammar.{Limits}
 
 -- ---- Behind `<<`
@@ -129,6 +129,6 @@ pub cause_none : (all : Readable) (at : ℕ) (n : Numbered) → StandsAt all at 
 cause_none all at n s h = let P : List Word → Type 0 = λ v. FirstToken begins_simple v Syntax in subst P (sym s.is) (at_other s.word (drop (at + 1) all.words) (ap begins_simple s.kind ∙ h))
 
 -- bodies and guards are no sizes
-pub no_size_mode : (setting : Setting) → mode_of setting ≡ InSize → ⊥
+pub no_size_mode : (site : Site) → mode_of site ≡ InSize → ⊥
 no_size_mode AsBody e = cc
 no_size_mode AsGuard e = cc

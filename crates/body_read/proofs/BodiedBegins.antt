@@ -16,21 +16,21 @@ use Rattle.erl_syntax.specs.Word.{Word}
 use Rattle.erl_syntax.specs.Operators.{prefix_of}
 use Rattle.erl_syntax.specs.Grammar.{Mode, InBody, InGuard, InSize, Context, under, inside, in_mode, Limits, Goal, Mark, Of, Level, Tail, Operand, Exprs, MoreExprs, Body, MoreItems, Alts, MoreAlts, Branches, MoreBranches, level, operand, prefix, atom, macro, tuple, list, case, receive, if_, common, variable, integer, character, string, bits, paren, no_call, unqualified, no_exprs, exprs, end_exprs, no_list, no_bits, pattern, not_same, pat_variable, unguarded, tests, end_tests, body, end_items, item_value, alts, end_alts, alt, branches, end_branches, branch, Spells, takes, begins, this, expands}
 use Rattle.pattern_read.specs.declared.placed.Placed.{Placed}
-use Rattle.body_read.specs.declared.setting.Setting.{Setting}
-use Rattle.body_read.specs.declared.setting.Setting.TheVariants.{Body as AsBody, Guard as AsGuard}
+use Rattle.body_read.specs.declared.site.Site.{Site}
+use Rattle.body_read.specs.declared.site.Site.TheVariants.{Body as AsBody, Guard as AsGuard}
 use Rattle.pattern_read.specs.declared.fault.Cause.{Cause}
 use Rattle.pattern_read.specs.declared.fault.Cause.TheVariants.{Syntax, TooDeep}
-use Rattle.pattern_read.specs.declared.source.Numbered.{Numbered}
-use Rattle.pattern_read.specs.Source.{StandsAt}
+use Rattle.pattern_read.specs.declared.cursor.Numbered.{Numbered}
+use Rattle.pattern_read.specs.Cursor.{StandsAt}
 use Rattle.pattern_read.specs.Reading.{IsRefused, SameHead, closed}
 use Rattle.pattern_read.specs.Wanted.{exprs_in, NoMark, no_mark_end, no_mark}
 use Rattle.body_read.specs.WantedExprs.{mode_of, common_in}
-use Rattle.body_read.specs.Settings.{begins_block, begins_guard, begins_in, NoneBegins, none_at_end, none_at, FirstIn, only_deeper_in, none_first}
+use Rattle.body_read.specs.Sites.{begins_block, begins_guard, begins_in, NoneBegins, none_at_end, none_at, FirstIn, only_deeper_in, none_first}
 use Rattle.pattern_read.proofs.Passing.{spells_at}
 use Rattle.pattern_read.proofs.Operands.{some_place, some_word, level_completed, level_with, operand_spells, deeper, deeper_wide, mark_word, close_paren, module_word}
 use Rattle.pattern_read.proofs.Calls.{level_ends}
 use Rattle.pattern_read.proofs.Depths.{Begun}
-use Rattle.pattern_read.specs.Source.{Readable}
+use Rattle.pattern_read.specs.Cursor.{Readable}
 
 -- ---- How an expression begins
 
@@ -73,31 +73,31 @@ either false b (inr h) = h
 no_body : {m : Mode} → m ≡ InGuard → m ≡ InBody → ⊥
 no_body a b = cc
 
-begins_setting : (s : Setting) (m : Mode) (kind : TokenKind) → m ≡ mode_of s → Begins m kind → IsTrue (begins_in s kind)
-begins_setting AsBody m kind h (inl b) = either (begins_block kind) (begins_guard kind) (inr b)
-begins_setting AsBody m kind h (inr b) = either (begins_block kind) (begins_guard kind) (inl b.1)
-begins_setting AsGuard m kind h (inl b) = b
-begins_setting AsGuard m kind h (inr b) = absurd (no_body h b.0)
+begins_site : (s : Site) (m : Mode) (kind : TokenKind) → m ≡ mode_of s → Begins m kind → IsTrue (begins_in s kind)
+begins_site AsBody m kind h (inl b) = either (begins_block kind) (begins_guard kind) (inr b)
+begins_site AsBody m kind h (inr b) = either (begins_block kind) (begins_guard kind) (inl b.1)
+begins_site AsGuard m kind h (inl b) = b
+begins_site AsGuard m kind h (inr b) = absurd (no_body h b.0)
 
 not_both : {a : Bool} → a ≡ false → IsTrue a → ⊥
 not_both a b = cc
 
--- a token with which no expression of the setting begins
-pub none_level : (l : Limits) (s : Setting) (n : ℕ) (c : Context) (at : Span) (e : Expr) (d : ℕ) (gs : List Goal) (rest w : List Word) → c.mode ≡ mode_of s → NoneBegins s rest → SameHead w rest → Spells l (Of (Level n c at e d) ∷ gs) w → ⊥
+-- a token with which no expression of the site begins
+pub none_level : (l : Limits) (s : Site) (n : ℕ) (c : Context) (at : Span) (e : Expr) (d : ℕ) (gs : List Goal) (rest w : List Word) → c.mode ≡ mode_of s → NoneBegins s rest → SameHead w rest → Spells l (Of (Level n c at e d) ∷ gs) w → ⊥
 none_level l s n c at e d gs _ [] m none_at_end h z = level_ends l n c at e d gs z
 none_level l s n c at e d gs _ (t ∷ w) m none_at_end h z = h
 none_level l s n c at e d gs _ [] m (none_at j rest b) h z = h
-none_level l s n c at e d gs _ (t ∷ w) m (none_at j rest b) h z = not_both b (begins_setting s c.mode j.kind m (let P : Word → Type 0 = λ v. Begins c.mode v.kind in subst P h (level_begins l n c at e d gs t w z)))
+none_level l s n c at e d gs _ (t ∷ w) m (none_at j rest b) h z = not_both b (begins_site s c.mode j.kind m (let P : Word → Type 0 = λ v. Begins c.mode v.kind in subst P h (level_begins l n c at e d gs t w z)))
 
 -- ---- Why no expression stands there
 
-pub first_at_end : (s : Setting) (rest : List Word) → rest ≡ [] → FirstIn s rest Syntax
+pub first_at_end : (s : Site) (rest : List Word) → rest ≡ [] → FirstIn s rest Syntax
 first_at_end s rest e = let P : List Word → Type 0 = λ v. FirstIn s v Syntax in subst P (sym e) (none_first [] none_at_end)
 
-pub first_deep : (s : Setting) (all : Readable) (at : ℕ) (n : Numbered) → StandsAt all at n → begins_in s n.token.kind ≡ true → FirstIn s (drop at all.words) TooDeep
+pub first_deep : (s : Site) (all : Readable) (at : ℕ) (n : Numbered) → StandsAt all at n → begins_in s n.token.kind ≡ true → FirstIn s (drop at all.words) TooDeep
 first_deep s all at n w h = let P : List Word → Type 0 = λ v. FirstIn s v TooDeep in subst P (sym w.is) (only_deeper_in w.word (drop (at + 1) all.words) (ap (begins_in s) w.kind ∙ h))
 
-pub first_other : (s : Setting) (all : Readable) (at : ℕ) (n : Numbered) → StandsAt all at n → begins_in s n.token.kind ≡ false → FirstIn s (drop at all.words) Syntax
+pub first_other : (s : Site) (all : Readable) (at : ℕ) (n : Numbered) → StandsAt all at n → begins_in s n.token.kind ≡ false → FirstIn s (drop at all.words) Syntax
 first_other s all at n w h = let P : List Word → Type 0 = λ v. FirstIn s v Syntax in subst P (sym w.is) (none_first (w.word ∷ drop (at + 1) all.words) (none_at w.word (drop (at + 1) all.words) (ap (begins_in s) w.kind ∙ h)))
 
 -- ---- Spellings of blocks
@@ -214,7 +214,7 @@ begun_guard c j k.LeftBits m h b = as_operand c j (begun_bits c j m h)
 begun_guard c j k.LeftParen m h b = as_operand c j (begun_paren c j h)
 begun_guard c j _ m h b = cc
 
-pub not_size : (s : Setting) (m : Mode) → m ≡ mode_of s → m ≡ InSize → ⊥
+pub not_size : (s : Site) (m : Mode) → m ≡ mode_of s → m ≡ InSize → ⊥
 not_size AsBody m a b = cc
 not_size AsGuard m a b = cc
 
@@ -226,7 +226,7 @@ begun_body : {most : Limits} (c : Context) (j : Word) → c.mode ≡ InBody → 
 begun_body c j m (inl b) = begun_block c j j.kind m refl b
 begun_body c j m (inr b) = begun_guard c j j.kind (not_size AsBody c.mode m) refl b
 
-pub begun_in : {most : Limits} (s : Setting) (c : Context) (j : Word) → c.mode ≡ mode_of s → IsTrue (begins_in s j.kind) → Begun most c j
+pub begun_in : {most : Limits} (s : Site) (c : Context) (j : Word) → c.mode ≡ mode_of s → IsTrue (begins_in s j.kind) → Begun most c j
 begun_in AsBody c j m b = begun_body c j m (one_of (begins_block j.kind) (begins_guard j.kind) b)
 begun_in AsGuard c j m b = begun_guard c j j.kind (not_size AsGuard c.mode m) refl b
 
@@ -263,12 +263,12 @@ exprs_deep {most = most} close c j rest n g h = record {
   };
 }
 
-none_exprs : (l : Limits) (s : Setting) (close : TokenKind) (c : Context) (ys : List Expr) (d : ℕ) (gs : List Goal) (rest w : List Word) → c.mode ≡ mode_of s → NoMark close rest → NoneBegins s rest → SameHead w rest → Spells l (Of (Exprs close c ys d) ∷ gs) w → ⊥
+none_exprs : (l : Limits) (s : Site) (close : TokenKind) (c : Context) (ys : List Expr) (d : ℕ) (gs : List Goal) (rest w : List Word) → c.mode ≡ mode_of s → NoMark close rest → NoneBegins s rest → SameHead w rest → Spells l (Of (Exprs close c ys d) ∷ gs) w → ⊥
 none_exprs l s close c _ d gs rest w m n b h (expands _ (exprs close_0 c_0 ay y dy ys dys d_0 q0 q1) z) = none_level l s 0 c ay y dy (Of (MoreExprs close c ys dys) ∷ gs) rest w m b h z
 none_exprs l s close c _ d gs _ w m no_mark_end b h (expands _ (no_exprs close_0 c_0 d_0 q0) (takes t kk z)) = h
 none_exprs l s close c _ d gs _ w m (no_mark j rest n) b h (expands _ (no_exprs close_0 c_0 d_0 q0) (takes t kk z)) = n (ap (λ v. v.kind) (sym h) ∙ kk)
 
-no_exprs_there : {most : Limits} (s : Setting) (close : TokenKind) (c : Context) (rest : List Word) → c.mode ≡ mode_of s → NoMark close rest → NoneBegins s rest → IsRefused most {X = List Expr × ℕ} closed (exprs_in close c) rest rest Syntax
+no_exprs_there : {most : Limits} (s : Site) (close : TokenKind) (c : Context) (rest : List Word) → c.mode ≡ mode_of s → NoMark close rest → NoneBegins s rest → IsRefused most {X = List Expr × ℕ} closed (exprs_in close c) rest rest Syntax
 no_exprs_there s close c rest m n b = record {
   front = [];
   whole = refl;
@@ -282,6 +282,6 @@ no_exprs_there s close c rest m n b = record {
 head_not : {kind : TokenKind} {j : Word} {rest : List Word} → NoMark kind (j ∷ rest) → j.kind ≡ kind → ⊥
 head_not (no_mark j rest f) = f
 
-pub exprs_first_in : {most : Limits} (s : Setting) (close : TokenKind) (c : Context) (rest : List Word) (why : Cause) → c.mode ≡ mode_of s → FirstIn s rest why → NoMark close rest → most.trees < c.deep → IsRefused most {X = List Expr × ℕ} closed (exprs_in close c) rest rest why
+pub exprs_first_in : {most : Limits} (s : Site) (close : TokenKind) (c : Context) (rest : List Word) (why : Cause) → c.mode ≡ mode_of s → FirstIn s rest why → NoMark close rest → most.trees < c.deep → IsRefused most {X = List Expr × ℕ} closed (exprs_in close c) rest rest why
 exprs_first_in s close c _ _ m (only_deeper_in j rest b) n h = exprs_deep close c j rest (head_not n) (begun_in s c j m b) h
 exprs_first_in s close c _ _ m (none_first rest b) n h = no_exprs_there s close c rest m n b

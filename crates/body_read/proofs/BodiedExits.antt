@@ -11,17 +11,17 @@ use Rattle.erl_syntax.specs.declared.clause.Branch.{Branch}
 use Rattle.erl_syntax.specs.Word.{Word}
 use Rattle.erl_syntax.specs.Operators.{prefix_of}
 use Rattle.erl_syntax.specs.Grammar.{Context, InBody, InSize, under, inside}
-use Rattle.pattern_read.specs.Source.{StandsAt, number_of}
-use Rattle.pattern_read.specs.declared.source.Numbered.{Numbered}
+use Rattle.pattern_read.specs.Cursor.{StandsAt, number_of}
+use Rattle.pattern_read.specs.declared.cursor.Numbered.{Numbered}
 use Rattle.pattern_read.specs.declared.placed.Placed.{Placed}
-use Rattle.body_read.specs.declared.setting.Setting.{Setting}
-use Rattle.body_read.specs.declared.setting.Setting.TheVariants.{Body as AsBody, Guard as AsGuard}
+use Rattle.body_read.specs.declared.site.Site.{Site}
+use Rattle.body_read.specs.declared.site.Site.TheVariants.{Body as AsBody, Guard as AsGuard}
 use Rattle.pattern_read.specs.declared.fault.Cause.TheVariants.{Syntax, TooDeep}
 use Rattle.pattern_read.specs.declared.fault.Fault.{Fault}
 use Rattle.pattern_read.specs.Reading.{Passes, IsRefused, Gives, closed}
 use Rattle.pattern_read.specs.Wanted.{calls, extends, level_in, operand_in, exprs_in, mark_in}
-use Rattle.body_read.specs.WantedExprs.{mode_of, in_setting, in_body, common_in, list_in, bits_in, alts_in, branches_in}
-use Rattle.body_read.specs.Settings.{begins_block, IsBlock, of_alts, case_in}
+use Rattle.body_read.specs.WantedExprs.{mode_of, in_site, in_body, common_in, list_in, bits_in, alts_in, branches_in}
+use Rattle.body_read.specs.Sites.{begins_block, IsBlock, of_alts, case_in}
 use Rattle.pattern_read.proofs.Passing.{Behind, Spelled, same_kinds, closed_within, and_then, refused_after, first_of_two, at_token, refused_at, remade, fault_after, fault_first}
 use Rattle.pattern_read.proofs.Levels.{same_placed}
 use Rattle.pattern_read.proofs.Operands.{behind_mark, mark_spelled}
@@ -29,7 +29,7 @@ use Rattle.pattern_read.proofs.Exits.{gives_on}
 use Rattle.body_read.proofs.BodiedBegins.{clause_words, some_alt, alts_spell}
 use Rattle.body_read.proofs.BodiedCommon.{only_variable, only_integer, only_character, only_string, only_bits, only_paren, bits_deep, paren_deep, no_common_end, no_common, common_none}
 use Rattle.body_read.proofs.BodiedOperands.{on_tuple, on_list, on_case, on_receive, on_if, behind_value, value_spelled, tuple_deep, list_deep, block_deep, none_else_end, none_else, only_common}
-use Rattle.pattern_read.specs.Source.{Readable}
+use Rattle.pattern_read.specs.Cursor.{Readable}
 use Rattle.erl_syntax.specs.Grammar.{Limits}
 
 -- ---- Operands
@@ -37,21 +37,21 @@ use Rattle.erl_syntax.specs.Grammar.{Limits}
 pub operand_at_end : (c : Context) (ws : Readable) (at : ℕ) → drop at ws.words ≡ [] → IsRefused ws.limits {X = Placed Expr} calls (operand_in c) (drop at ws.words) (drop at ws.words) Syntax
 operand_at_end c ws at e = refused_at e (refused_after (closed_within calls) (only_common c [] none_else_end) (common_none c [] no_common_end))
 
-pub as_body : (s : Setting) (deep brackets : ℕ) (ws : Readable) (at : ℕ) (r : Result (Placed Expr × ℕ) Fault) → s ≡ AsBody → Gives calls (operand_in (in_body deep brackets)) ws at r → Gives calls (operand_in (in_setting s deep brackets)) ws at r
-as_body s deep brackets ws at r e g = let P : Setting → Type 0 = λ v. Gives calls (operand_in (in_setting v deep brackets)) ws at r in subst P (sym e) g
+pub as_body : (s : Site) (deep brackets : ℕ) (ws : Readable) (at : ℕ) (r : Result (Placed Expr × ℕ) Fault) → s ≡ AsBody → Gives calls (operand_in (in_body deep brackets)) ws at r → Gives calls (operand_in (in_site s deep brackets)) ws at r
+as_body s deep brackets ws at r e g = let P : Site → Type 0 = λ v. Gives calls (operand_in (in_site v deep brackets)) ws at r in subst P (sym e) g
 
 no_op : (found : Option Prefix) → ((op : Prefix) → found ≡ Some op → ⊥) → found ≡ None
 no_op None f = refl
 no_op (Some op) f = absurd (f op refl)
 
-a_body : (s : Setting) → mode_of s ≡ InBody → s ≡ AsBody
+a_body : (s : Site) → mode_of s ≡ InBody → s ≡ AsBody
 a_body AsBody h = refl
 a_body AsGuard h = cc
 
-pub operand_common : (s : Setting) (deep brackets : ℕ) (ws : Readable) (at : ℕ) (n : Numbered) (r : Result (Placed Expr × ℕ) Fault) → StandsAt ws at n → ((op : Prefix) → prefix_of n.token.kind ≡ Some op → ⊥) → (n.token.kind ≡ k.Atom → ⊥) → (n.token.kind ≡ k.Question → ⊥) → (n.token.kind ≡ k.LeftBrace → ⊥) → (n.token.kind ≡ k.LeftBracket → ⊥) → (IsBlock s n.token.kind → ⊥) →
-    Gives closed (common_in (in_setting s deep brackets)) ws at r → Gives calls (operand_in (in_setting s deep brackets)) ws at r
+pub operand_common : (s : Site) (deep brackets : ℕ) (ws : Readable) (at : ℕ) (n : Numbered) (r : Result (Placed Expr × ℕ) Fault) → StandsAt ws at n → ((op : Prefix) → prefix_of n.token.kind ≡ Some op → ⊥) → (n.token.kind ≡ k.Atom → ⊥) → (n.token.kind ≡ k.Question → ⊥) → (n.token.kind ≡ k.LeftBrace → ⊥) → (n.token.kind ≡ k.LeftBracket → ⊥) → (IsBlock s n.token.kind → ⊥) →
+    Gives closed (common_in (in_site s deep brackets)) ws at r → Gives calls (operand_in (in_site s deep brackets)) ws at r
 operand_common s deep brackets ws at n r w a b d e f i g =
-    let c : Context = in_setting s deep brackets in
+    let c : Context = in_site s deep brackets in
     let P : List Word → Type 0 = λ v. Passes ws.limits {X = Placed Expr} {Y = Placed Expr} calls (operand_in c) v (common_in c) v (λ p. p) in
     gives_on ws at at r (closed_within calls) (subst P (sym w.is) (only_common c (w.word ∷ drop (at + 1) ws.words) (none_else w.word (drop (at + 1) ws.words) (record {
       prefix = no_op (prefix_of w.word.kind) (λ op j. a op (ap prefix_of (sym w.kind) ∙ j));

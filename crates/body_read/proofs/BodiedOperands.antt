@@ -15,7 +15,7 @@ use Rattle.pattern_read.specs.declared.fault.Cause.TheVariants.{TooDeep}
 use Rattle.pattern_read.specs.Reading.{Passes, IsRefused, SameHead}
 use Rattle.pattern_read.specs.Wanted.{calls, extends, operand_in, exprs_in}
 use Rattle.body_read.specs.WantedExprs.{common_in, list_in, alts_in, branches_in}
-use Rattle.body_read.specs.Settings.{begins_block, of_alts, case_in}
+use Rattle.body_read.specs.Sites.{begins_block, of_alts, case_in}
 use Rattle.pattern_read.proofs.Passing.{Behind, Spelled}
 use Rattle.pattern_read.proofs.Levels.{same_placed, no_prefix}
 use Rattle.pattern_read.proofs.Operands.{some_word, some_expr, operand_spells, deeper, deeper_wide, mark_word}

@@ -10,7 +10,7 @@ use Rattle.body_read.specs.WantedExprs.{body_in, body_longer, item_in, item_long
 use Rattle.pattern_read.proofs.Passing.{same_kinds, and_then, first_of_two, at_token, remade, fault_after, fault_first}
 use Rattle.pattern_read.proofs.Levels.{same_pair}
 use Rattle.body_read.proofs.BodyLaws.{item_and_more, more_items_in, on_body, on_next_item, on_end_items, behind_item, items_spelled}
-use Rattle.pattern_read.specs.Source.{Readable}
+use Rattle.pattern_read.specs.Cursor.{Readable}
 
 -- what was read of a body, before an item
 abbrev pub BodyRead : Context → Readable → ℕ → ℕ → List Item → ℕ → Type 0

@@ -9,7 +9,7 @@ use Rattle.pattern_read.specs.Reading.{Passes, IsRefused, GoesOn, Excused, Stops
 use Rattle.body_read.specs.WantedItems.{Joins, IsFarther}
 use Rattle.pattern_read.proofs.Passing.{Within, follows_within, spells_at}
 use Rattle.body_read.proofs.Groups.{Fronts, longer, alike, shorter, fronts}
-use Rattle.pattern_read.specs.Source.{Readable}
+use Rattle.pattern_read.specs.Cursor.{Readable}
 
 -- one of two wanted things
 abbrev pub either_of : {Y Z : Type 0} → (Y → List Goal) → (Z → List Goal) → Y ⊎ Z → List Goal

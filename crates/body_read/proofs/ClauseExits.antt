@@ -18,7 +18,7 @@ use Rattle.body_read.specs.WantedExprs.{alt_in, alts_in, body_in, body_longer, b
 use Rattle.pattern_read.proofs.Passing.{same_kinds, behind_closed, and_then, refused_after, first_of_two, at_token, remade, fault_after, fault_first}
 use Rattle.pattern_read.proofs.Levels.{same_pair}
 use Rattle.body_read.proofs.ClauseLaws.{alt_and_more, more_alts_in, on_alts, on_next_alt, on_end_alts, more_alts_refused, behind_alt, alts_spelled, rest_of_alt, on_alt, behind_pattern, rest_spelled, body_spelled, branch_and_more, more_branches_in, on_branches, on_next_branch, on_end_branches, more_branches_refused, behind_branch, branches_spelled, on_branch}
-use Rattle.pattern_read.specs.Source.{Readable}
+use Rattle.pattern_read.specs.Cursor.{Readable}
 
 -- ---- The clauses of `case` and `receive`
 

@@ -15,7 +15,7 @@ use Rattle.body_read.specs.WantedExprs.{guarded_in, tests_in}
 use Rattle.pattern_read.proofs.Passing.{same_kinds, and_then, refused_after, first_of_two, at_token, remade, fault_after, fault_first}
 use Rattle.pattern_read.proofs.Levels.{same_pair}
 use Rattle.body_read.proofs.GuardLaws.{same_guard, on_unguarded, on_guarded, guarded_refused, more_tests_in, test_and_more, tests_there, on_tests, on_next_test, on_next_alternative, on_end_tests, more_tests_refused, behind_test, tests_spelled}
-use Rattle.pattern_read.specs.Source.{Readable}
+use Rattle.pattern_read.specs.Cursor.{Readable}
 
 -- ---- With a guard or without
 

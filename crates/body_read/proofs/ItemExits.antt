@@ -22,7 +22,7 @@ use Rattle.pattern_read.proofs.Levels.{same_pair}
 use Rattle.pattern_read.proofs.Operands.{mark_word}
 use Rattle.body_read.proofs.Choices.{refused_wider, refused_behind}
 use Rattle.body_read.proofs.ItemLaws.{item_within, value_passes, matched_passes, item_refused}
-use Rattle.pattern_read.specs.Source.{Readable}
+use Rattle.pattern_read.specs.Cursor.{Readable}
 use Rattle.erl_syntax.specs.Grammar.{Limits}
 
 -- ---- A wanted thing and a mark behind it

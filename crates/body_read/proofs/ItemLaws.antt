@@ -21,7 +21,7 @@ use Rattle.pattern_read.proofs.Operands.{some_word, some_expr, level_completed}
 use Rattle.body_read.proofs.Walk.{Barred, shape}
 use Rattle.body_read.proofs.Groups.{Whole, Group, apart, cut, level_whole, pat_group}
 use Rattle.body_read.proofs.Choices.{either_of, both_refused}
-use Rattle.pattern_read.specs.Source.{Readable}
+use Rattle.pattern_read.specs.Cursor.{Readable}
 
 pub itself_wide : (most : Limits) → IsWide most most
 itself_wide most = record { trees = omega arith; brackets = omega arith }

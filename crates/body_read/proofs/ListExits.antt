@@ -10,7 +10,7 @@ use Rattle.erl_syntax.specs.declared.qual.Qual.{Qual}
 use Rattle.erl_syntax.specs.Word.{Word}
 use Rattle.erl_syntax.specs.Grammar.{InBody, Context, under, inside}
 use Rattle.pattern_read.specs.declared.placed.Placed.{Placed}
-use Rattle.body_read.specs.declared.setting.Setting.{Setting}
+use Rattle.body_read.specs.declared.site.Site.{Site}
 use Rattle.pattern_read.specs.declared.fault.Cause.{Cause}
 use Rattle.pattern_read.specs.declared.fault.Cause.TheVariants.{Syntax}
 use Rattle.pattern_read.specs.declared.fault.Fault.{Fault}
@@ -18,7 +18,7 @@ use Rattle.pattern_read.specs.Reading.{Passes, IsRefused, Gives, closed}
 use Rattle.pattern_read.specs.Wanted.{extends, level_in, mark_in, IsAt, NoMark}
 use Rattle.body_read.specs.WantedExprs.{in_body, list_in, mode_of, quals_in}
 use Rattle.body_read.specs.WantedSegments.{after_first_in, list_items_in, last_in, NoRow}
-use Rattle.body_read.specs.Settings.{FirstIn, only_deeper_in, none_first}
+use Rattle.body_read.specs.Sites.{FirstIn, only_deeper_in, none_first}
 use Rattle.pattern_read.proofs.Passing.{same_kinds, and_then, refused_after, first_of_two, at_token, remade, fault_after, fault_first}
 use Rattle.pattern_read.proofs.Levels.{same_pair}
 use Rattle.pattern_read.proofs.Operands.{behind_mark, mark_spelled}
@@ -26,7 +26,7 @@ use Rattle.pattern_read.proofs.Exits.{gives_on}
 use Rattle.body_read.proofs.BitsExits.{body_context}
 use Rattle.body_read.proofs.BodiedBegins.{begun_in}
 use Rattle.body_read.proofs.ListLaws.{on_no_list, on_first, first_completed, behind_first_item, first_too_deep, no_first_there, on_list_row, on_items, on_next_item, on_tail, on_end_list, items_refused, behind_item, items_spelled, on_last}
-use Rattle.pattern_read.specs.Source.{Readable}
+use Rattle.pattern_read.specs.Cursor.{Readable}
 use Rattle.erl_syntax.specs.Grammar.{Limits}
 
 -- ---- Behind `[`
@@ -37,11 +37,11 @@ same_list {place = place} {items = items} {ys = ys} {tail = tail} {end = end} p 
 pub list_empty_ok : (c : Context) (ws : Readable) (at : ℕ) (place : Span) (items tail : List Expr) → IsAt ws at k.RightBracket → items ≡ [] → tail ≡ [] → Gives closed (list_in c place) ws at (Ok ((x.List place items tail, 1), at + 1))
 list_empty_ok c ws at place items tail s e f = remade (λ u. same_list (sym e) (sym f) refl) (at_token s.is (on_no_list c place s.word (drop (at + 1) ws.words) s.kind_is))
 
-refused_first_item : {most : Limits} (s : Setting) (c : Context) (place : Span) (rest : List Word) (why : Cause) → c.mode ≡ mode_of s → FirstIn s rest why → NoMark k.RightBracket rest → most.trees < c.deep + 1 → IsRefused most {X = Expr × ℕ} closed (list_in c place) rest rest why
+refused_first_item : {most : Limits} (s : Site) (c : Context) (place : Span) (rest : List Word) (why : Cause) → c.mode ≡ mode_of s → FirstIn s rest why → NoMark k.RightBracket rest → most.trees < c.deep + 1 → IsRefused most {X = Expr × ℕ} closed (list_in c place) rest rest why
 refused_first_item s c place _ _ m (only_deeper_in j rest b) n h = first_too_deep c place j rest n (begun_in s (inside (under c)) j m b) h
 refused_first_item s c place _ _ m (none_first rest b) n h = no_first_there s c place rest m n b
 
-pub list_deep : (s : Setting) (c : Context) (ws : Readable) (at : ℕ) (place : Span) (why : Cause) → c.mode ≡ mode_of s → FirstIn s (drop at ws.words) why → NoMark k.RightBracket (drop at ws.words) → ws.limits.trees < c.deep + 1 → IsRefused ws.limits {X = Expr × ℕ} closed (list_in c place) (drop at ws.words) (drop at ws.words) why
+pub list_deep : (s : Site) (c : Context) (ws : Readable) (at : ℕ) (place : Span) (why : Cause) → c.mode ≡ mode_of s → FirstIn s (drop at ws.words) why → NoMark k.RightBracket (drop at ws.words) → ws.limits.trees < c.deep + 1 → IsRefused ws.limits {X = Expr × ℕ} closed (list_in c place) (drop at ws.words) (drop at ws.words) why
 list_deep s c ws at place why m v n h = refused_first_item s c place (drop at ws.words) why m v n h
 
 pub list_first_err : (c : Context) (ws : Readable) (at : ℕ) (place : Span) (f : Fault) → c.deep + 1 ≤ ws.limits.trees → NoMark k.RightBracket (drop at ws.words) → Gives (extends 0) (level_in 0 (inside (under c))) ws at (Err f) → Gives closed (list_in c place) ws at (Err f)

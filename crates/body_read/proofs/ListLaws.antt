@@ -9,13 +9,13 @@ use Rattle.erl_syntax.specs.declared.qual.Qual.{Qual}
 use Rattle.erl_syntax.specs.Word.{Word}
 use Rattle.erl_syntax.specs.Grammar.{InBody, Context, under, inside, Limits, Goal, Mark, Of, Level, ListRest, AfterFirst, ListItems, Quals, no_list, list_first, list_for, list_items, next_item, list_tail, end_list, Spells, takes, expands}
 use Rattle.pattern_read.specs.declared.placed.Placed.{Placed}
-use Rattle.body_read.specs.declared.setting.Setting.{Setting}
+use Rattle.body_read.specs.declared.site.Site.{Site}
 use Rattle.pattern_read.specs.declared.fault.Cause.TheVariants.{Syntax, TooDeep}
 use Rattle.pattern_read.specs.Reading.{Passes, IsRefused, SameHead, closed, nothing}
 use Rattle.pattern_read.specs.Wanted.{extends, begins_expr, level_in, mark_in, NoMark, no_mark_end, no_mark}
 use Rattle.body_read.specs.WantedExprs.{list_in, mode_of, quals_in}
 use Rattle.body_read.specs.WantedSegments.{after_first_in, list_items_in, last_in, NoRow}
-use Rattle.body_read.specs.Settings.{NoneBegins}
+use Rattle.body_read.specs.Sites.{NoneBegins}
 use Rattle.pattern_read.proofs.Passing.{Behind, Spelled, spells_at}
 use Rattle.pattern_read.proofs.Levels.{same_pair}
 use Rattle.pattern_read.proofs.Operands.{deeper, deeper_wide, mark_word, level_with}
@@ -107,7 +107,7 @@ first_too_deep {most = most} c at j rest n g b = record {
   };
 }
 
-pub no_first_there : {most : Limits} (s : Setting) (c : Context) (at : Span) (rest : List Word) → c.mode ≡ mode_of s → NoMark k.RightBracket rest → NoneBegins s rest → IsRefused most {X = Expr × ℕ} closed (list_in c at) rest rest Syntax
+pub no_first_there : {most : Limits} (s : Site) (c : Context) (at : Span) (rest : List Word) → c.mode ≡ mode_of s → NoMark k.RightBracket rest → NoneBegins s rest → IsRefused most {X = Expr × ℕ} closed (list_in c at) rest rest Syntax
 no_first_there s c at rest m n b = record {
   front = [];
   whole = refl;

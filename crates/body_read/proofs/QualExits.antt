@@ -12,8 +12,8 @@ use Rattle.pattern_read.specs.declared.placed.Placed.{Placed}
 use Rattle.pattern_read.specs.declared.fault.Fault.{Fault}
 use Rattle.pattern_read.specs.declared.fault.Fault.TheVariants.{Memory, Refused}
 use Rattle.pattern_read.specs.declared.fault.Cause.TheVariants.{Syntax}
-use Rattle.pattern_read.specs.Source.{StandsAt}
-use Rattle.pattern_read.specs.declared.source.Numbered.{Numbered}
+use Rattle.pattern_read.specs.Cursor.{StandsAt}
+use Rattle.pattern_read.specs.declared.cursor.Numbered.{Numbered}
 use Rattle.pattern_read.specs.Reading.{Passes, closed, Gives}
 use Rattle.pattern_read.specs.Wanted.{extends, level_in, mark_in, NoMark, IsAt}
 use Rattle.body_read.specs.WantedExprs.{qual_longer, qual_in}
@@ -23,7 +23,7 @@ use Rattle.pattern_read.proofs.Passing.{Behind, same_kinds, behind_closed, and_t
 use Rattle.body_read.proofs.Choices.{refused_wider, refused_behind}
 use Rattle.body_read.proofs.ItemExits.{marked_err, no_mark_err, marked_ok}
 use Rattle.body_read.proofs.QualLaws.{opened_in, filter_qual, qual_within, bars_qual, filter_passes, generated_passes, opened_passes, plain_refused, ways_refused}
-use Rattle.pattern_read.specs.Source.{Readable}
+use Rattle.pattern_read.specs.Cursor.{Readable}
 
 -- ---- A pattern with its arrow
 

@@ -23,7 +23,7 @@ use Rattle.body_read.proofs.Walk.{Floor, Inside, shape, walks}
 use Rattle.body_read.proofs.Groups.{Whole, Group, bracket, group_whole, cut, level_whole, pat_group}
 use Rattle.body_read.proofs.Choices.{either_of, both_refused}
 use Rattle.body_read.proofs.ItemLaws.{BarAt, bar_longer, after_whole, bar_behind_level, marked, no_bar_there, itself_wide}
-use Rattle.pattern_read.specs.Source.{Readable}
+use Rattle.pattern_read.specs.Cursor.{Readable}
 
 -- ---- The three ways of a qualifier
 

@@ -19,7 +19,7 @@ use Rattle.body_read.specs.WantedExprs.{qual_longer, qual_in, quals_in}
 use Rattle.pattern_read.proofs.Passing.{Behind, Spelled, same_kinds, and_then, first_of_two, fault_after, fault_first, refused_after, refused_at, at_token, remade}
 use Rattle.pattern_read.proofs.Levels.{same_pair, no_prefix}
 use Rattle.pattern_read.proofs.Operands.{some_word, some_expr, level_completed, deeper, deeper_wide, mark_word}
-use Rattle.pattern_read.specs.Source.{Readable}
+use Rattle.pattern_read.specs.Cursor.{Readable}
 
 -- ---- Qualifiers up to a closing bracket
 

@@ -9,8 +9,8 @@ use Rattle.erl_syntax.specs.declared.segment.Segment.{Segment}
 use Rattle.erl_syntax.specs.Word.{Word}
 use Rattle.erl_syntax.specs.Operators.{prefix_of}
 use Rattle.erl_syntax.specs.Grammar.{Context, under}
-use Rattle.pattern_read.specs.Source.{StandsAt, number_of}
-use Rattle.pattern_read.specs.declared.source.Numbered.{Numbered}
+use Rattle.pattern_read.specs.Cursor.{StandsAt, number_of}
+use Rattle.pattern_read.specs.declared.cursor.Numbered.{Numbered}
 use Rattle.pattern_read.specs.declared.placed.Placed.{Placed}
 use Rattle.pattern_read.specs.declared.fault.Cause.TheVariants.{TooDeep}
 use Rattle.pattern_read.specs.declared.fault.Fault.{Fault}
@@ -24,7 +24,7 @@ use Rattle.pattern_read.proofs.Levels.{same_placed}
 use Rattle.pattern_read.proofs.Words.{is_none, is_no}
 use Rattle.pattern_read.proofs.Exits.{gives_on}
 use Rattle.body_read.proofs.SegmentLaws.{on_simple_atom, on_simple, types_within, on_unsized, on_sized, type_spelled, rest_spelled, signed, on_prefixed, signed_spelled, on_segment_value, on_segment_prefixed, signed_too_deep}
-use Rattle.pattern_read.specs.Source.{Readable}
+use Rattle.pattern_read.specs.Cursor.{Readable}
 
 -- ---- A value
 

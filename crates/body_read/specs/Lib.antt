@@ -1,4 +1,4 @@
-pub mod Settings
+pub mod Sites
 pub mod WantedExprs
 pub mod WantedItems
 pub mod WantedSegments

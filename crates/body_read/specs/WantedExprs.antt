@@ -11,17 +11,17 @@ use Rattle.erl_syntax.specs.declared.clause.Guard.{Guard}
 use Rattle.erl_syntax.specs.declared.clause.Item.{Item}
 use Rattle.erl_syntax.specs.declared.clause.Alt.{Alt}
 use Rattle.erl_syntax.specs.declared.clause.Branch.{Branch}
-use Rattle.body_read.specs.declared.setting.Setting.{Setting}
-use Rattle.body_read.specs.declared.setting.Setting.TheVariants.{Body as AsBody, Guard as AsGuard}
+use Rattle.body_read.specs.declared.site.Site.{Site}
+use Rattle.body_read.specs.declared.site.Site.TheVariants.{Body as AsBody, Guard as AsGuard}
 use Rattle.pattern_read.specs.declared.placed.Placed.{Placed}
 use Rattle.pattern_read.specs.Wanted.{extends}
 
-abbrev pub mode_of : Setting → Mode
+abbrev pub mode_of : Site → Mode
 mode_of AsBody = InBody
 mode_of AsGuard = InGuard
 
-abbrev pub in_setting : Setting → ℕ → ℕ → Context
-in_setting setting deep brackets = record { mode = mode_of setting; deep = deep; open_ = brackets }
+abbrev pub in_site : Site → ℕ → ℕ → Context
+in_site site deep brackets = record { mode = mode_of site; deep = deep; open_ = brackets }
 
 abbrev pub in_body : ℕ → ℕ → Context
 in_body deep brackets = record { mode = InBody; deep = deep; open_ = brackets }

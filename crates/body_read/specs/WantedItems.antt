@@ -17,7 +17,7 @@ use Rattle.pattern_read.specs.declared.fault.Cause.TheVariants.{Syntax, TooDeep,
 use Rattle.pattern_read.specs.Reading.{Passes, Gives, closed, nothing}
 use Rattle.pattern_read.specs.Wanted.{NoMark, IsAt}
 use Rattle.body_read.specs.WantedExprs.{item_longer, item_in}
-use Rattle.pattern_read.specs.Source.{Readable}
+use Rattle.pattern_read.specs.Cursor.{Readable}
 
 -- a pattern of an item, with its `=`
 abbrev pub matched_in : Context → Placed Pattern → List Goal

@@ -13,7 +13,7 @@ use Rattle.pattern_read.specs.declared.fault.Fault.{Fault}
 use Rattle.pattern_read.specs.declared.placed.Placed.{Placed}
 use Rattle.pattern_read.specs.Reading.{Passes, Gives, closed}
 use Rattle.pattern_read.specs.Wanted.{level_in, NoMark}
-use Rattle.pattern_read.specs.Source.{Readable}
+use Rattle.pattern_read.specs.Cursor.{Readable}
 
 -- a segment with an operator before its value
 abbrev pub prefixed_in : Context → Segment × ℕ → List Goal

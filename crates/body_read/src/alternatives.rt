@@ -4,39 +4,39 @@ ghost use Rattle.body_read.specs.WantedExprs.{alt_in, alts_in, body_longer, bran
 
 use crate::bodies::{body, guarded, tests};
 use erl_syntax::{Alt, Branch, Guard, Listed, TokenKind};
+use pattern_read::cursor::Cursor;
 use pattern_read::fault::{Cause, Fault};
 use pattern_read::patterns::pattern;
 use pattern_read::placed::higher;
-use pattern_read::source::Source;
 use std::alloc::Global;
 
 /// The clauses of `case` and `receive`, up to `end`.
 #[cycle(expr)]
 pub fn alts(
     alloc: Global,
-    source: &Source,
+    cursor: &Cursor,
     at: usize,
     deep: usize,
     brackets: usize,
 ) -> Result<((Listed<Alt>, usize), usize), Fault>
-    requires place { at ≤ length source.now.words }
-    requires tree { deep ≤ source.now.limits.trees }
-    requires bracket { brackets ≤ source.now.limits.brackets }
-    ensures reads { Gives closed (alts_in (in_body deep brackets)) source.now at result }
-    ensures further { IfOk result (λ r. at < r.1 × (r.1 ≤ length source.now.words)) }
-    ensures bounded { IfOk result (λ r. (1 ≤ r.0.1) × (deep + r.0.1 ≤ source.now.limits.trees + 1)) }
+    requires place { at ≤ length cursor.now.words }
+    requires tree { deep ≤ cursor.now.limits.trees }
+    requires bracket { brackets ≤ cursor.now.limits.brackets }
+    ensures reads { Gives closed (alts_in (in_body deep brackets)) cursor.now at result }
+    ensures further { IfOk result (λ r. at < r.1 × (r.1 ≤ length cursor.now.words)) }
+    ensures bounded { IfOk result (λ r. (1 ≤ r.0.1) × (deep + r.0.1 ≤ cursor.now.limits.trees + 1)) }
 {
     let mut alts = Vec::new(alloc);
     let mut height = 0;
     let mut next = at;
     loop {
-        let ((read, tall), after) = alt(alloc, source, next, deep, brackets)?;
+        let ((read, tall), after) = alt(alloc, cursor, next, deep, brackets)?;
         alts.push(read)?;
         height = higher(height, tall);
-        if source.is(after, TokenKind::End) {
+        if cursor.is(after, TokenKind::End) {
             return Ok(((Listed::of(alts), height), after + 1));
         }
-        if !source.is(after, TokenKind::Semicolon) {
+        if !cursor.is(after, TokenKind::Semicolon) {
             return Err(Fault::Refused(after, Cause::Syntax));
         }
         next = after + 1;
@@ -47,21 +47,21 @@ pub fn alts(
 #[cycle(expr)]
 pub fn alt(
     alloc: Global,
-    source: &Source,
+    cursor: &Cursor,
     at: usize,
     deep: usize,
     brackets: usize,
 ) -> Result<((Alt, usize), usize), Fault>
-    requires place { at ≤ length source.now.words }
-    requires tree { deep ≤ source.now.limits.trees }
-    requires bracket { brackets ≤ source.now.limits.brackets }
-    ensures reads { Gives body_longer (alt_in (in_body deep brackets)) source.now at result }
-    ensures further { IfOk result (λ r. at < r.1 × (r.1 ≤ length source.now.words)) }
-    ensures bounded { IfOk result (λ r. (1 ≤ r.0.1) × (deep + r.0.1 ≤ source.now.limits.trees + 1)) }
+    requires place { at ≤ length cursor.now.words }
+    requires tree { deep ≤ cursor.now.limits.trees }
+    requires bracket { brackets ≤ cursor.now.limits.brackets }
+    ensures reads { Gives body_longer (alt_in (in_body deep brackets)) cursor.now at result }
+    ensures further { IfOk result (λ r. at < r.1 × (r.1 ≤ length cursor.now.words)) }
+    ensures bounded { IfOk result (λ r. (1 ≤ r.0.1) × (deep + r.0.1 ≤ cursor.now.limits.trees + 1)) }
 {
-    let (first, after) = pattern(alloc, source, at, deep, brackets)?;
-    let ((guard, guard_height), then) = guarded(alloc, source, after, deep, brackets)?;
-    let ((items, body_height), next) = body(alloc, source, then, deep, brackets)?;
+    let (first, after) = pattern(alloc, cursor, at, deep, brackets)?;
+    let ((guard, guard_height), then) = guarded(alloc, cursor, after, deep, brackets)?;
+    let ((items, body_height), next) = body(alloc, cursor, then, deep, brackets)?;
     let alt = Alt {
         at: first.at,
         pattern: first.tree,
@@ -76,29 +76,29 @@ pub fn alt(
 #[cycle(expr)]
 pub fn branches(
     alloc: Global,
-    source: &Source,
+    cursor: &Cursor,
     at: usize,
     deep: usize,
     brackets: usize,
 ) -> Result<((Listed<Branch>, usize), usize), Fault>
-    requires place { at ≤ length source.now.words }
-    requires tree { deep ≤ source.now.limits.trees }
-    requires bracket { brackets ≤ source.now.limits.brackets }
-    ensures reads { Gives closed (branches_in (in_body deep brackets)) source.now at result }
-    ensures further { IfOk result (λ r. at < r.1 × (r.1 ≤ length source.now.words)) }
-    ensures bounded { IfOk result (λ r. (1 ≤ r.0.1) × (deep + r.0.1 ≤ source.now.limits.trees + 1)) }
+    requires place { at ≤ length cursor.now.words }
+    requires tree { deep ≤ cursor.now.limits.trees }
+    requires bracket { brackets ≤ cursor.now.limits.brackets }
+    ensures reads { Gives closed (branches_in (in_body deep brackets)) cursor.now at result }
+    ensures further { IfOk result (λ r. at < r.1 × (r.1 ≤ length cursor.now.words)) }
+    ensures bounded { IfOk result (λ r. (1 ≤ r.0.1) × (deep + r.0.1 ≤ cursor.now.limits.trees + 1)) }
 {
     let mut branches = Vec::new(alloc);
     let mut height = 0;
     let mut next = at;
     loop {
-        let ((read, tall), after) = branch(alloc, source, next, deep, brackets)?;
+        let ((read, tall), after) = branch(alloc, cursor, next, deep, brackets)?;
         branches.push(read)?;
         height = higher(height, tall);
-        if source.is(after, TokenKind::End) {
+        if cursor.is(after, TokenKind::End) {
             return Ok(((Listed::of(branches), height), after + 1));
         }
-        if !source.is(after, TokenKind::Semicolon) {
+        if !cursor.is(after, TokenKind::Semicolon) {
             return Err(Fault::Refused(after, Cause::Syntax));
         }
         next = after + 1;
@@ -109,20 +109,20 @@ pub fn branches(
 #[cycle(expr)]
 pub fn branch(
     alloc: Global,
-    source: &Source,
+    cursor: &Cursor,
     at: usize,
     deep: usize,
     brackets: usize,
 ) -> Result<((Branch, usize), usize), Fault>
-    requires place { at ≤ length source.now.words }
-    requires tree { deep ≤ source.now.limits.trees }
-    requires bracket { brackets ≤ source.now.limits.brackets }
-    ensures reads { Gives body_longer (branch_in (in_body deep brackets)) source.now at result }
-    ensures further { IfOk result (λ r. at < r.1 × (r.1 ≤ length source.now.words)) }
-    ensures bounded { IfOk result (λ r. (1 ≤ r.0.1) × (deep + r.0.1 ≤ source.now.limits.trees + 1)) }
+    requires place { at ≤ length cursor.now.words }
+    requires tree { deep ≤ cursor.now.limits.trees }
+    requires bracket { brackets ≤ cursor.now.limits.brackets }
+    ensures reads { Gives body_longer (branch_in (in_body deep brackets)) cursor.now at result }
+    ensures further { IfOk result (λ r. at < r.1 × (r.1 ≤ length cursor.now.words)) }
+    ensures bounded { IfOk result (λ r. (1 ≤ r.0.1) × (deep + r.0.1 ≤ cursor.now.limits.trees + 1)) }
 {
-    let (read, after) = tests(alloc, source, at, deep, brackets)?;
-    let ((items, body_height), next) = body(alloc, source, after, deep, brackets)?;
+    let (read, after) = tests(alloc, cursor, at, deep, brackets)?;
+    let ((items, body_height), next) = body(alloc, cursor, after, deep, brackets)?;
     let branch = Branch {
         at: read.at,
         guard: Guard {

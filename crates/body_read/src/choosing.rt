@@ -6,12 +6,12 @@ ghost use Rattle.body_read.specs.WantedExprs.{qual_longer, qual_in};
 ghost use Rattle.body_read.specs.WantedItems.{matched_in, generated_in, Joins, IsFarther, Joined, Joined3, GivesValue, bars, NoneOf, BarStands, BitsTried, IsFilterOf};
 
 use erl_syntax::{Expr, Qual, TokenKind};
+use pattern_read::cursor::Cursor;
 use pattern_read::fault::{Cause, Fault};
 use pattern_read::placed::Placed;
-use pattern_read::source::Source;
 
 /// The cause at a token at which one reading is refused, where another is refused further left, or there.
-fn joined(later: Cause, earlier: Cause) -> Cause
+fn either_cause(later: Cause, earlier: Cause) -> Cause
     ensures { Joins later earlier result }
 {
     match (later, earlier) {
@@ -27,11 +27,11 @@ fn farther(first: (usize, Cause), second: (usize, Cause)) -> (usize, Cause)
     ensures { IsFarther first.0 first.1 second.0 second.1 result.0 result.1 }
 {
     if first.0 > second.0 {
-        (first.0, joined(first.1, second.1))
+        (first.0, either_cause(first.1, second.1))
     } else if first.0 < second.0 || first.1 == Cause::Syntax || second.1 == Cause::TooDeep {
-        (second.0, joined(second.1, first.1))
+        (second.0, either_cause(second.1, first.1))
     } else {
-        (second.0, joined(first.1, second.1))
+        (second.0, either_cause(first.1, second.1))
     }
 }
 
@@ -50,18 +50,18 @@ fn refusal(first: Fault, second: Fault) -> Fault
 
 /// The expression of an item, where a pattern with its `=` was refused and an expression was tried.
 pub fn item_value(
-    source: &Source,
+    cursor: &Cursor,
     at: usize,
     tried: Fault,
     read: Result<(Placed<Expr>, usize), Fault>,
 ) -> Result<(Placed<Expr>, usize), Fault>
-    requires { IfOk read (λ r. r.1 ≤ length source.now.words) }
-    ensures reads { (c : Context) → Gives closed (matched_in c) source.now at (Err tried) → Gives (extends 0) (level_in 0 c) source.now at read → GivesValue c source.now at result }
+    requires { IfOk read (λ r. r.1 ≤ length cursor.now.words) }
+    ensures reads { (c : Context) → Gives closed (matched_in c) cursor.now at (Err tried) → Gives (extends 0) (level_in 0 c) cursor.now at read → GivesValue c cursor.now at result }
     ensures kept { IfOk result (λ r. read ≡ Ok r) }
 {
     match read {
         Ok((value, after)) => {
-            if source.is(after, TokenKind::Match) {
+            if cursor.is(after, TokenKind::Match) {
                 return Err(refusal(tried, Fault::Refused(after, Cause::Syntax)));
             }
             Ok((value, after))
@@ -91,12 +91,12 @@ fn is_bar(kind: TokenKind) -> bool
 }
 
 /// Whether the mark of a match or of a generator stands there.
-fn bar_stands(source: &Source, at: usize) -> bool
-    requires { at ≤ length source.now.words }
-    ensures yes { IsTrue result → BarStands source.now at }
-    ensures no { result ≡ false → NoneOf bars (drop at source.now.words) }
+fn bar_stands(cursor: &Cursor, at: usize) -> bool
+    requires { at ≤ length cursor.now.words }
+    ensures yes { IsTrue result → BarStands cursor.now at }
+    ensures no { result ≡ false → NoneOf bars (drop at cursor.now.words) }
 {
-    let Some(numbered) = source.token(at) else {
+    let Some(numbered) = cursor.token(at) else {
         return false;
     };
     is_bar(numbered.token.kind)
@@ -104,19 +104,19 @@ fn bar_stands(source: &Source, at: usize) -> bool
 
 /// A filter, where generators were refused and an expression was tried.
 pub fn filter(
-    source: &Source,
+    cursor: &Cursor,
     at: usize,
     pattern: Fault,
     bits: Option<Fault>,
     read: Result<(Placed<Expr>, usize), Fault>,
 ) -> Result<((Qual, usize), usize), Fault>
-    requires { IfOk read (λ r. r.1 ≤ length source.now.words) }
-    ensures reads { (c : Context) → Gives closed (generated_in c) source.now at (Err pattern) → BitsTried c source.now at bits → Gives (extends 0) (level_in 0 c) source.now at read → Gives qual_longer (qual_in c) source.now at result }
+    requires { IfOk read (λ r. r.1 ≤ length cursor.now.words) }
+    ensures reads { (c : Context) → Gives closed (generated_in c) cursor.now at (Err pattern) → BitsTried c cursor.now at bits → Gives (extends 0) (level_in 0 c) cursor.now at read → Gives qual_longer (qual_in c) cursor.now at result }
     ensures kept { IfOk result (λ r. IsFilterOf read r) }
 {
     match read {
         Ok((test, after)) => {
-            if bar_stands(source, after) {
+            if bar_stands(cursor, after) {
                 return Err(furthest(pattern, bits, Fault::Refused(after, Cause::Syntax)));
             }
             let height = test.height;

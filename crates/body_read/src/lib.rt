@@ -11,4 +11,4 @@ mod lists;
 mod operand;
 mod quals;
 mod segments;
-pub mod setting;
+pub mod site;

@@ -1,38 +1,38 @@
 ghost use Rattle.std.specs.Prelude.{◌≤◌, ◌<◌, ◌+◌, drop, length, IfOk};
 ghost use Rattle.erl_syntax.specs.declared.token.TokenKind.TheVariants as k;
 ghost use Rattle.pattern_read.specs.Reading.{Gives, closed};
-ghost use Rattle.body_read.specs.WantedExprs.{in_setting, list_in, mode_of};
+ghost use Rattle.body_read.specs.WantedExprs.{in_site, list_in, mode_of};
 ghost use Rattle.body_read.specs.WantedSegments.{NoRow, after_first_in, last_in};
 
 use crate::exprs::{cause_of_first, level};
 use crate::quals::quals;
 use crate::segments::is_row;
-use crate::setting::Setting;
+use crate::site::Site;
 use erl_syntax::{Expr, Listed, Span, TokenKind};
+use pattern_read::cursor::{Cursor, mark};
 use pattern_read::fault::{Cause, Fault};
 use pattern_read::placed::{Placed, higher};
-use pattern_read::source::{Source, mark};
 use std::alloc::Global;
 
 /// A list or a list comprehension, behind `[`.
 #[cycle(expr)]
 pub fn list(
     alloc: Global,
-    source: &Source,
+    cursor: &Cursor,
     at: usize,
-    setting: Setting,
+    site: Site,
     deep: usize,
     brackets: usize,
     place: Span,
 ) -> Result<((Expr, usize), usize), Fault>
-    requires place { at ≤ length source.now.words }
-    requires tree { deep ≤ source.now.limits.trees }
-    requires bracket { brackets < source.now.limits.brackets }
-    ensures reads { Gives closed (list_in (in_setting setting deep brackets) place) source.now at result }
-    ensures further { IfOk result (λ r. at < r.1 × (r.1 ≤ length source.now.words)) }
-    ensures bounded { IfOk result (λ r. (1 ≤ r.0.1) × (deep + r.0.1 ≤ source.now.limits.trees + 1)) }
+    requires place { at ≤ length cursor.now.words }
+    requires tree { deep ≤ cursor.now.limits.trees }
+    requires bracket { brackets < cursor.now.limits.brackets }
+    ensures reads { Gives closed (list_in (in_site site deep brackets) place) cursor.now at result }
+    ensures further { IfOk result (λ r. at < r.1 × (r.1 ≤ length cursor.now.words)) }
+    ensures bounded { IfOk result (λ r. (1 ≤ r.0.1) × (deep + r.0.1 ≤ cursor.now.limits.trees + 1)) }
 {
-    if source.is(at, TokenKind::RightBracket) {
+    if cursor.is(at, TokenKind::RightBracket) {
         let items = Listed::of(Vec::new(alloc));
         let tail = Listed::of(Vec::new(alloc));
         let tree = Expr::List {
@@ -42,40 +42,40 @@ pub fn list(
         };
         return Ok(((tree, 1), at + 1));
     }
-    if deep >= source.trees() {
-        return Err(Fault::Refused(at, cause_of_first(source, at, setting)));
+    if deep >= cursor.trees() {
+        return Err(Fault::Refused(at, cause_of_first(cursor, at, site)));
     }
-    let (first, next) = level(alloc, source, at, 0, setting, deep + 1, brackets + 1)?;
-    after_first(alloc, source, next, setting, deep, brackets, place, first)
+    let (first, next) = level(alloc, cursor, at, 0, site, deep + 1, brackets + 1)?;
+    after_first(alloc, cursor, next, site, deep, brackets, place, first)
 }
 
 /// A list or a list comprehension, behind its first item.
 #[cycle(expr)]
 fn after_first(
     alloc: Global,
-    source: &Source,
+    cursor: &Cursor,
     at: usize,
-    setting: Setting,
+    site: Site,
     deep: usize,
     brackets: usize,
     place: Span,
     first: Placed<Expr>,
 ) -> Result<((Expr, usize), usize), Fault>
-    requires place { at ≤ length source.now.words }
-    requires tree { deep < source.now.limits.trees }
-    requires bracket { brackets < source.now.limits.brackets }
+    requires place { at ≤ length cursor.now.words }
+    requires tree { deep < cursor.now.limits.trees }
+    requires bracket { brackets < cursor.now.limits.brackets }
     requires tall { 1 ≤ first.height }
-    requires height { deep + first.height ≤ source.now.limits.trees }
-    ensures reads { Gives closed (after_first_in (in_setting setting deep brackets) place first) source.now at result }
-    ensures further { IfOk result (λ r. at < r.1 × (r.1 ≤ length source.now.words)) }
-    ensures bounded { IfOk result (λ r. (1 ≤ r.0.1) × (deep + r.0.1 ≤ source.now.limits.trees + 1)) }
+    requires height { deep + first.height ≤ cursor.now.limits.trees }
+    ensures reads { Gives closed (after_first_in (in_site site deep brackets) place first) cursor.now at result }
+    ensures further { IfOk result (λ r. at < r.1 × (r.1 ≤ length cursor.now.words)) }
+    ensures bounded { IfOk result (λ r. (1 ≤ r.0.1) × (deep + r.0.1 ≤ cursor.now.limits.trees + 1)) }
 {
-    if !is_row(source, at, setting) {
-        return list_items(alloc, source, at, setting, deep, brackets, place, first);
+    if !is_row(cursor, at, site) {
+        return list_items(alloc, cursor, at, site, deep, brackets, place, first);
     }
     let ((quals, height), next) = quals(
         alloc,
-        source,
+        cursor,
         at + 1,
         deep + 1,
         brackets + 1,
@@ -95,29 +95,29 @@ fn after_first(
 #[cycle(expr)]
 fn list_items(
     alloc: Global,
-    source: &Source,
+    cursor: &Cursor,
     at: usize,
-    setting: Setting,
+    site: Site,
     deep: usize,
     brackets: usize,
     place: Span,
     first: Placed<Expr>,
 ) -> Result<((Expr, usize), usize), Fault>
-    requires place { at ≤ length source.now.words }
-    requires tree { deep < source.now.limits.trees }
-    requires bracket { brackets < source.now.limits.brackets }
+    requires place { at ≤ length cursor.now.words }
+    requires tree { deep < cursor.now.limits.trees }
+    requires bracket { brackets < cursor.now.limits.brackets }
     requires tall { 1 ≤ first.height }
-    requires height { deep + first.height ≤ source.now.limits.trees }
-    requires row { NoRow (mode_of setting) (drop at source.now.words) }
-    ensures reads { Gives closed (after_first_in (in_setting setting deep brackets) place first) source.now at result }
-    ensures further { IfOk result (λ r. at < r.1 × (r.1 ≤ length source.now.words)) }
-    ensures bounded { IfOk result (λ r. (1 ≤ r.0.1) × (deep + r.0.1 ≤ source.now.limits.trees + 1)) }
+    requires height { deep + first.height ≤ cursor.now.limits.trees }
+    requires row { NoRow (mode_of site) (drop at cursor.now.words) }
+    ensures reads { Gives closed (after_first_in (in_site site deep brackets) place first) cursor.now at result }
+    ensures further { IfOk result (λ r. at < r.1 × (r.1 ≤ length cursor.now.words)) }
+    ensures bounded { IfOk result (λ r. (1 ≤ r.0.1) × (deep + r.0.1 ≤ cursor.now.limits.trees + 1)) }
 {
     let mut height = first.height;
     let mut items = vec![in alloc; first.tree]?;
     let mut next = at;
     loop {
-        if source.is(next, TokenKind::RightBracket) {
+        if cursor.is(next, TokenKind::RightBracket) {
             let tree = Expr::List {
                 at: place,
                 items: Listed::of(items),
@@ -125,8 +125,8 @@ fn list_items(
             };
             return Ok(((tree, height + 1), next + 1));
         }
-        if source.is(next, TokenKind::Bar) {
-            let (last, after) = last(alloc, source, next + 1, setting, deep + 1, brackets + 1)?;
+        if cursor.is(next, TokenKind::Bar) {
+            let (last, after) = last(alloc, cursor, next + 1, site, deep + 1, brackets + 1)?;
             let highest = higher(height, last.height) + 1;
             let tree = Expr::List {
                 at: place,
@@ -135,10 +135,10 @@ fn list_items(
             };
             return Ok(((tree, highest), after));
         }
-        if !source.is(next, TokenKind::Comma) {
+        if !cursor.is(next, TokenKind::Comma) {
             return Err(Fault::Refused(next, Cause::Syntax));
         }
-        let (item, after) = level(alloc, source, next + 1, 0, setting, deep + 1, brackets + 1)?;
+        let (item, after) = level(alloc, cursor, next + 1, 0, site, deep + 1, brackets + 1)?;
         items.push(item.tree)?;
         height = higher(height, item.height);
         next = after;
@@ -149,20 +149,20 @@ fn list_items(
 #[cycle(expr)]
 fn last(
     alloc: Global,
-    source: &Source,
+    cursor: &Cursor,
     at: usize,
-    setting: Setting,
+    site: Site,
     deep: usize,
     brackets: usize,
 ) -> Result<(Placed<Expr>, usize), Fault>
-    requires place { at ≤ length source.now.words }
-    requires tree { deep ≤ source.now.limits.trees }
-    requires bracket { brackets ≤ source.now.limits.brackets }
-    ensures reads { Gives closed (last_in k.RightBracket (in_setting setting deep brackets)) source.now at result }
-    ensures further { IfOk result (λ r. at < r.1 × (r.1 ≤ length source.now.words)) }
-    ensures bounded { IfOk result (λ r. (1 ≤ r.0.height) × (deep + r.0.height ≤ source.now.limits.trees + 1)) }
+    requires place { at ≤ length cursor.now.words }
+    requires tree { deep ≤ cursor.now.limits.trees }
+    requires bracket { brackets ≤ cursor.now.limits.brackets }
+    ensures reads { Gives closed (last_in k.RightBracket (in_site site deep brackets)) cursor.now at result }
+    ensures further { IfOk result (λ r. at < r.1 × (r.1 ≤ length cursor.now.words)) }
+    ensures bounded { IfOk result (λ r. (1 ≤ r.0.height) × (deep + r.0.height ≤ cursor.now.limits.trees + 1)) }
 {
-    let (tail, after) = level(alloc, source, at, 0, setting, deep, brackets)?;
-    let (_, next) = mark(source, after, TokenKind::RightBracket)?;
+    let (tail, after) = level(alloc, cursor, at, 0, site, deep, brackets)?;
+    let (_, next) = mark(cursor, after, TokenKind::RightBracket)?;
     Ok((tail, next))
 }

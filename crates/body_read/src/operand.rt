@@ -3,59 +3,59 @@ ghost use Rattle.erl_syntax.specs.Grammar.{Context, InSize};
 ghost use Rattle.erl_syntax.specs.Operators.{prefix_of};
 ghost use Rattle.erl_syntax.specs.declared.token.TokenKind.TheVariants as k;
 ghost use Rattle.pattern_read.specs.Reading.{Gives, closed};
-ghost use Rattle.body_read.specs.Settings.{begins_block, case_in};
-ghost use Rattle.pattern_read.specs.Source.{StandsAt};
+ghost use Rattle.body_read.specs.Sites.{begins_block, case_in};
+ghost use Rattle.pattern_read.specs.Cursor.{StandsAt};
 ghost use Rattle.pattern_read.specs.Wanted.{after_atom_in, calls, operand_in, qualified_in};
-ghost use Rattle.body_read.specs.WantedExprs.{common_in, in_body, in_setting};
+ghost use Rattle.body_read.specs.WantedExprs.{common_in, in_body, in_site};
 ghost use Rattle.std.specs.Prelude.{Some};
 
 use crate::alternatives::{alts, branches};
 use crate::exprs::{exprs, is_block, level, one};
 use crate::lists::list;
 use crate::segments::bits;
-use crate::setting::Setting;
+use crate::site::Site;
 use erl_syntax::{Alt, Expr, Listed, Prefix, Span, TokenKind};
+use pattern_read::cursor::{Cursor, Numbered, mark};
 use pattern_read::fault::{Cause, Fault};
 use pattern_read::operators::prefix;
 use pattern_read::placed::{Placed, higher};
-use pattern_read::source::{Numbered, Source, mark};
 use std::alloc::Global;
 
 /// An operand.
 #[cycle(expr)]
 pub fn operand(
     alloc: Global,
-    source: &Source,
+    cursor: &Cursor,
     at: usize,
-    setting: Setting,
+    site: Site,
     deep: usize,
     brackets: usize,
 ) -> Result<(Placed<Expr>, usize), Fault>
-    requires place { at ≤ length source.now.words }
-    requires tree { deep ≤ source.now.limits.trees }
-    requires bracket { brackets ≤ source.now.limits.brackets }
-    ensures reads { Gives calls (operand_in (in_setting setting deep brackets)) source.now at result }
-    ensures further { IfOk result (λ r. at < r.1 × (r.1 ≤ length source.now.words)) }
-    ensures bounded { IfOk result (λ r. (1 ≤ r.0.height) × (deep + r.0.height ≤ source.now.limits.trees + 1)) }
+    requires place { at ≤ length cursor.now.words }
+    requires tree { deep ≤ cursor.now.limits.trees }
+    requires bracket { brackets ≤ cursor.now.limits.brackets }
+    ensures reads { Gives calls (operand_in (in_site site deep brackets)) cursor.now at result }
+    ensures further { IfOk result (λ r. at < r.1 × (r.1 ≤ length cursor.now.words)) }
+    ensures bounded { IfOk result (λ r. (1 ≤ r.0.height) × (deep + r.0.height ≤ cursor.now.limits.trees + 1)) }
 {
-    let Some(numbered) = source.token(at) else {
+    let Some(numbered) = cursor.token(at) else {
         return Err(Fault::Refused(at, Cause::Syntax));
     };
     let kind = numbered.token.kind;
     if let Some(op) = prefix(kind) {
-        return prefixed(alloc, source, at, setting, deep, brackets, numbered, op);
+        return prefixed(alloc, cursor, at, site, deep, brackets, numbered, op);
     }
-    if is_block(kind, setting) {
-        return block(alloc, source, at, deep, brackets, numbered);
+    if is_block(kind, site) {
+        return block(alloc, cursor, at, deep, brackets, numbered);
     }
     let place = numbered.token.span;
     match kind {
         TokenKind::Atom => {
             let ((tree, height), next) = after_atom(
                 alloc,
-                source,
+                cursor,
                 at + 1,
-                setting,
+                site,
                 deep,
                 brackets,
                 place,
@@ -71,15 +71,15 @@ pub fn operand(
             ))
         }
         TokenKind::Question => {
-            if !source.is_module(at + 1) {
+            if !cursor.is_module(at + 1) {
                 return Err(Fault::Refused(at + 1, Cause::Syntax));
             }
             let qualifier = Expr::ModuleName { at: place };
             let ((tree, height), next) = qualified(
                 alloc,
-                source,
+                cursor,
                 at + 2,
-                setting,
+                site,
                 deep,
                 brackets,
                 place,
@@ -94,20 +94,12 @@ pub fn operand(
                 next,
             ))
         }
-        TokenKind::LeftBrace => tuple(alloc, source, at, setting, deep, brackets, numbered),
+        TokenKind::LeftBrace => tuple(alloc, cursor, at, site, deep, brackets, numbered),
         TokenKind::LeftBracket => {
-            if brackets >= source.brackets() {
+            if brackets >= cursor.brackets() {
                 return Err(Fault::Refused(at, Cause::TooDeep));
             }
-            let ((tree, height), next) = list(
-                alloc,
-                source,
-                at + 1,
-                setting,
-                deep,
-                brackets,
-                place,
-            )?;
+            let ((tree, height), next) = list(alloc, cursor, at + 1, site, deep, brackets, place)?;
             Ok((
                 Placed {
                     at: place,
@@ -117,7 +109,7 @@ pub fn operand(
                 next,
             ))
         }
-        _ => common(alloc, source, at, setting, deep, brackets),
+        _ => common(alloc, cursor, at, site, deep, brackets),
     }
 }
 
@@ -125,29 +117,29 @@ pub fn operand(
 #[cycle(expr)]
 fn prefixed(
     alloc: Global,
-    source: &Source,
+    cursor: &Cursor,
     at: usize,
-    setting: Setting,
+    site: Site,
     deep: usize,
     brackets: usize,
     numbered: Numbered,
     op: Prefix,
 ) -> Result<(Placed<Expr>, usize), Fault>
-    requires place { at ≤ length source.now.words }
-    requires tree { deep ≤ source.now.limits.trees }
-    requires bracket { brackets ≤ source.now.limits.brackets }
-    requires token { StandsAt source.now at numbered }
+    requires place { at ≤ length cursor.now.words }
+    requires tree { deep ≤ cursor.now.limits.trees }
+    requires bracket { brackets ≤ cursor.now.limits.brackets }
+    requires token { StandsAt cursor.now at numbered }
     requires operator { prefix_of numbered.token.kind ≡ Some op }
-    requires within { at < length source.now.words }
-    requires short { length source.now.words < 2 ^ 64 }
-    ensures reads { Gives calls (operand_in (in_setting setting deep brackets)) source.now at result }
-    ensures further { IfOk result (λ r. at < r.1 × (r.1 ≤ length source.now.words)) }
-    ensures bounded { IfOk result (λ r. (1 ≤ r.0.height) × (deep + r.0.height ≤ source.now.limits.trees + 1)) }
+    requires within { at < length cursor.now.words }
+    requires short { length cursor.now.words < 2 ^ 64 }
+    ensures reads { Gives calls (operand_in (in_site site deep brackets)) cursor.now at result }
+    ensures further { IfOk result (λ r. at < r.1 × (r.1 ≤ length cursor.now.words)) }
+    ensures bounded { IfOk result (λ r. (1 ≤ r.0.height) × (deep + r.0.height ≤ cursor.now.limits.trees + 1)) }
 {
-    if deep >= source.trees() {
+    if deep >= cursor.trees() {
         return Err(Fault::Refused(at, Cause::TooDeep));
     }
-    let (part, next) = operand(alloc, source, at + 1, setting, deep + 1, brackets)?;
+    let (part, next) = operand(alloc, cursor, at + 1, site, deep + 1, brackets)?;
     let place = numbered.token.span;
     let height = part.height + 1;
     let tree = Expr::Unary {
@@ -169,33 +161,33 @@ fn prefixed(
 #[cycle(expr)]
 fn tuple(
     alloc: Global,
-    source: &Source,
+    cursor: &Cursor,
     at: usize,
-    setting: Setting,
+    site: Site,
     deep: usize,
     brackets: usize,
     numbered: Numbered,
 ) -> Result<(Placed<Expr>, usize), Fault>
-    requires place { at ≤ length source.now.words }
-    requires tree { deep ≤ source.now.limits.trees }
-    requires bracket { brackets ≤ source.now.limits.brackets }
-    requires token { StandsAt source.now at numbered }
+    requires place { at ≤ length cursor.now.words }
+    requires tree { deep ≤ cursor.now.limits.trees }
+    requires bracket { brackets ≤ cursor.now.limits.brackets }
+    requires token { StandsAt cursor.now at numbered }
     requires brace { numbered.token.kind ≡ k.LeftBrace }
-    requires within { at < length source.now.words }
-    requires short { length source.now.words < 2 ^ 64 }
-    requires trees { source.now.limits.trees ≤ 2 ^ 32 }
-    ensures reads { Gives calls (operand_in (in_setting setting deep brackets)) source.now at result }
-    ensures further { IfOk result (λ r. at < r.1 × (r.1 ≤ length source.now.words)) }
-    ensures bounded { IfOk result (λ r. (1 ≤ r.0.height) × (deep + r.0.height ≤ source.now.limits.trees + 1)) }
+    requires within { at < length cursor.now.words }
+    requires short { length cursor.now.words < 2 ^ 64 }
+    requires trees { cursor.now.limits.trees ≤ 2 ^ 32 }
+    ensures reads { Gives calls (operand_in (in_site site deep brackets)) cursor.now at result }
+    ensures further { IfOk result (λ r. at < r.1 × (r.1 ≤ length cursor.now.words)) }
+    ensures bounded { IfOk result (λ r. (1 ≤ r.0.height) × (deep + r.0.height ≤ cursor.now.limits.trees + 1)) }
 {
-    if brackets >= source.brackets() {
+    if brackets >= cursor.brackets() {
         return Err(Fault::Refused(at, Cause::TooDeep));
     }
     let ((items, height), next) = exprs(
         alloc,
-        source,
+        cursor,
         at + 1,
-        setting,
+        site,
         deep + 1,
         brackets + 1,
         TokenKind::RightBrace,
@@ -215,27 +207,27 @@ fn tuple(
 #[cycle(expr)]
 fn block(
     alloc: Global,
-    source: &Source,
+    cursor: &Cursor,
     at: usize,
     deep: usize,
     brackets: usize,
     numbered: Numbered,
 ) -> Result<(Placed<Expr>, usize), Fault>
-    requires place { at ≤ length source.now.words }
-    requires tree { deep ≤ source.now.limits.trees }
-    requires bracket { brackets ≤ source.now.limits.brackets }
-    requires token { StandsAt source.now at numbered }
+    requires place { at ≤ length cursor.now.words }
+    requires tree { deep ≤ cursor.now.limits.trees }
+    requires bracket { brackets ≤ cursor.now.limits.brackets }
+    requires token { StandsAt cursor.now at numbered }
     requires begins { IsTrue (begins_block numbered.token.kind) }
-    requires within { at < length source.now.words }
-    requires short { length source.now.words < 2 ^ 64 }
-    ensures reads { Gives calls (operand_in (in_body deep brackets)) source.now at result }
-    ensures further { IfOk result (λ r. at < r.1 × (r.1 ≤ length source.now.words)) }
-    ensures bounded { IfOk result (λ r. (1 ≤ r.0.height) × (deep + r.0.height ≤ source.now.limits.trees + 1)) }
+    requires within { at < length cursor.now.words }
+    requires short { length cursor.now.words < 2 ^ 64 }
+    ensures reads { Gives calls (operand_in (in_body deep brackets)) cursor.now at result }
+    ensures further { IfOk result (λ r. at < r.1 × (r.1 ≤ length cursor.now.words)) }
+    ensures bounded { IfOk result (λ r. (1 ≤ r.0.height) × (deep + r.0.height ≤ cursor.now.limits.trees + 1)) }
 {
-    if deep >= source.trees() {
+    if deep >= cursor.trees() {
         return Err(Fault::Refused(at, Cause::TooDeep));
     }
-    if brackets >= source.brackets() {
+    if brackets >= cursor.brackets() {
         return Err(Fault::Refused(at, Cause::TooDeep));
     }
     let place = numbered.token.span;
@@ -243,7 +235,7 @@ fn block(
         TokenKind::Case => {
             let ((value, (alts, height)), next) = case_parts(
                 alloc,
-                source,
+                cursor,
                 at + 1,
                 deep + 1,
                 brackets + 1,
@@ -264,7 +256,7 @@ fn block(
             ))
         }
         TokenKind::Receive => {
-            let ((alts, height), next) = alts(alloc, source, at + 1, deep + 1, brackets + 1)?;
+            let ((alts, height), next) = alts(alloc, cursor, at + 1, deep + 1, brackets + 1)?;
             Ok((
                 Placed {
                     at: place,
@@ -277,7 +269,7 @@ fn block(
         _ => {
             let ((branches, height), next) = branches(
                 alloc,
-                source,
+                cursor,
                 at + 1,
                 deep + 1,
                 brackets + 1,
@@ -301,22 +293,22 @@ fn block(
 #[cycle(expr)]
 fn case_parts(
     alloc: Global,
-    source: &Source,
+    cursor: &Cursor,
     at: usize,
     deep: usize,
     brackets: usize,
 ) -> Result<((Placed<Expr>, (Listed<Alt>, usize)), usize), Fault>
-    requires place { at ≤ length source.now.words }
-    requires tree { deep ≤ source.now.limits.trees }
-    requires bracket { brackets ≤ source.now.limits.brackets }
-    ensures reads { Gives closed (case_in (in_body deep brackets)) source.now at result }
-    ensures further { IfOk result (λ r. at < r.1 × (r.1 ≤ length source.now.words)) }
-    ensures value { IfOk result (λ r. (1 ≤ r.0.0.height) × (deep + r.0.0.height ≤ source.now.limits.trees + 1)) }
-    ensures alts { IfOk result (λ r. deep + r.0.1.1 ≤ source.now.limits.trees + 1) }
+    requires place { at ≤ length cursor.now.words }
+    requires tree { deep ≤ cursor.now.limits.trees }
+    requires bracket { brackets ≤ cursor.now.limits.brackets }
+    ensures reads { Gives closed (case_in (in_body deep brackets)) cursor.now at result }
+    ensures further { IfOk result (λ r. at < r.1 × (r.1 ≤ length cursor.now.words)) }
+    ensures value { IfOk result (λ r. (1 ≤ r.0.0.height) × (deep + r.0.0.height ≤ cursor.now.limits.trees + 1)) }
+    ensures alts { IfOk result (λ r. deep + r.0.1.1 ≤ cursor.now.limits.trees + 1) }
 {
-    let (value, after) = level(alloc, source, at, 0, Setting::Body, deep, brackets)?;
-    let ((), first) = mark(source, after, TokenKind::Of)?;
-    let ((alts, height), next) = alts(alloc, source, first, deep, brackets)?;
+    let (value, after) = level(alloc, cursor, at, 0, Site::Body, deep, brackets)?;
+    let ((), first) = mark(cursor, after, TokenKind::Of)?;
+    let ((alts, height), next) = alts(alloc, cursor, first, deep, brackets)?;
     Ok(((value, (alts, height)), next))
 }
 
@@ -324,37 +316,29 @@ fn case_parts(
 #[cycle(expr)]
 pub fn common(
     alloc: Global,
-    source: &Source,
+    cursor: &Cursor,
     at: usize,
-    setting: Setting,
+    site: Site,
     deep: usize,
     brackets: usize,
 ) -> Result<(Placed<Expr>, usize), Fault>
-    requires place { at ≤ length source.now.words }
-    requires tree { deep ≤ source.now.limits.trees }
-    requires bracket { brackets ≤ source.now.limits.brackets }
-    ensures reads { Gives closed (common_in (in_setting setting deep brackets)) source.now at result }
-    ensures further { IfOk result (λ r. at < r.1 × (r.1 ≤ length source.now.words)) }
-    ensures bounded { IfOk result (λ r. (1 ≤ r.0.height) × (deep + r.0.height ≤ source.now.limits.trees + 1)) }
+    requires place { at ≤ length cursor.now.words }
+    requires tree { deep ≤ cursor.now.limits.trees }
+    requires bracket { brackets ≤ cursor.now.limits.brackets }
+    ensures reads { Gives closed (common_in (in_site site deep brackets)) cursor.now at result }
+    ensures further { IfOk result (λ r. at < r.1 × (r.1 ≤ length cursor.now.words)) }
+    ensures bounded { IfOk result (λ r. (1 ≤ r.0.height) × (deep + r.0.height ≤ cursor.now.limits.trees + 1)) }
 {
-    let Some(numbered) = source.token(at) else {
+    let Some(numbered) = cursor.token(at) else {
         return Err(Fault::Refused(at, Cause::Syntax));
     };
     let place = numbered.token.span;
     match numbered.token.kind {
         TokenKind::LeftBits => {
-            if brackets >= source.brackets() {
+            if brackets >= cursor.brackets() {
                 return Err(Fault::Refused(at, Cause::TooDeep));
             }
-            let ((tree, height), next) = bits(
-                alloc,
-                source,
-                at + 1,
-                setting,
-                deep,
-                brackets,
-                place,
-            )?;
+            let ((tree, height), next) = bits(alloc, cursor, at + 1, site, deep, brackets, place)?;
             Ok((
                 Placed {
                     at: place,
@@ -365,11 +349,11 @@ pub fn common(
             ))
         }
         TokenKind::LeftParen => {
-            if brackets >= source.brackets() {
+            if brackets >= cursor.brackets() {
                 return Err(Fault::Refused(at, Cause::TooDeep));
             }
-            let (inner, after) = level(alloc, source, at + 1, 0, setting, deep, brackets + 1)?;
-            let ((), next) = mark(source, after, TokenKind::RightParen)?;
+            let (inner, after) = level(alloc, cursor, at + 1, 0, site, deep, brackets + 1)?;
+            let ((), next) = mark(cursor, after, TokenKind::RightParen)?;
             Ok((
                 Placed {
                     at: place,
@@ -379,31 +363,31 @@ pub fn common(
                 next,
             ))
         }
-        _ => literal(alloc, source, at, numbered),
+        _ => literal(alloc, cursor, at, numbered),
     }
 }
 
 /// A variable, a number, a character or a string, of a body or a guard.
 fn literal(
     alloc: Global,
-    source: &Source,
+    cursor: &Cursor,
     at: usize,
     numbered: Numbered,
 ) -> Result<(Placed<Expr>, usize), Fault>
-    requires token { StandsAt source.now at numbered }
-    requires within { at < length source.now.words }
-    requires short { length source.now.words < 2 ^ 64 }
+    requires token { StandsAt cursor.now at numbered }
+    requires within { at < length cursor.now.words }
+    requires short { length cursor.now.words < 2 ^ 64 }
     requires narrow { numbered.value < 2 ^ 127 }
     requires bits { numbered.token.kind ≢ k.LeftBits }
     requires paren { numbered.token.kind ≢ k.LeftParen }
-    ensures reads { (c : Context) → c.mode ≢ InSize → Gives closed (common_in c) source.now at result }
-    ensures further { IfOk result (λ r. at < r.1 × (r.1 ≤ length source.now.words)) }
+    ensures reads { (c : Context) → c.mode ≢ InSize → Gives closed (common_in c) cursor.now at result }
+    ensures further { IfOk result (λ r. at < r.1 × (r.1 ≤ length cursor.now.words)) }
     ensures height { IfOk result (λ r. r.0.height ≡ 1) }
 {
     let place = numbered.token.span;
     match numbered.token.kind {
         TokenKind::Variable => {
-            let name = source.name(alloc, at)?;
+            let name = cursor.name(alloc, at)?;
             Ok((
                 Placed {
                     at: place,
@@ -436,7 +420,7 @@ fn literal(
             ))
         }
         TokenKind::Str => {
-            let chars = source.string(alloc, at)?;
+            let chars = cursor.string(alloc, at)?;
             Ok((
                 Placed {
                     at: place,
@@ -454,36 +438,36 @@ fn literal(
 #[cycle(expr)]
 pub fn after_atom(
     alloc: Global,
-    source: &Source,
+    cursor: &Cursor,
     at: usize,
-    setting: Setting,
+    site: Site,
     deep: usize,
     brackets: usize,
     place: Span,
     name: u32,
 ) -> Result<((Expr, usize), usize), Fault>
-    requires place { at ≤ length source.now.words }
-    requires tree { deep ≤ source.now.limits.trees }
-    requires bracket { brackets ≤ source.now.limits.brackets }
-    ensures reads { Gives calls (after_atom_in (in_setting setting deep brackets) place name) source.now at result }
-    ensures further { IfOk result (λ r. at ≤ r.1 × (r.1 ≤ length source.now.words)) }
-    ensures bounded { IfOk result (λ r. (1 ≤ r.0.1) × (deep + r.0.1 ≤ source.now.limits.trees + 1)) }
+    requires place { at ≤ length cursor.now.words }
+    requires tree { deep ≤ cursor.now.limits.trees }
+    requires bracket { brackets ≤ cursor.now.limits.brackets }
+    ensures reads { Gives calls (after_atom_in (in_site site deep brackets) place name) cursor.now at result }
+    ensures further { IfOk result (λ r. at ≤ r.1 × (r.1 ≤ length cursor.now.words)) }
+    ensures bounded { IfOk result (λ r. (1 ≤ r.0.1) × (deep + r.0.1 ≤ cursor.now.limits.trees + 1)) }
 {
-    if !source.is(at, TokenKind::LeftParen) {
+    if !cursor.is(at, TokenKind::LeftParen) {
         let qualifier = Expr::Atom {
             at: place,
             atom: name,
         };
-        return qualified(alloc, source, at, setting, deep, brackets, place, qualifier);
+        return qualified(alloc, cursor, at, site, deep, brackets, place, qualifier);
     }
-    if brackets >= source.brackets() {
+    if brackets >= cursor.brackets() {
         return Err(Fault::Refused(at, Cause::TooDeep));
     }
     let ((args, height), next) = exprs(
         alloc,
-        source,
+        cursor,
         at + 1,
-        setting,
+        site,
         deep + 1,
         brackets + 1,
         TokenKind::RightParen,
@@ -507,41 +491,41 @@ pub fn after_atom(
 #[cycle(expr)]
 pub fn qualified(
     alloc: Global,
-    source: &Source,
+    cursor: &Cursor,
     at: usize,
-    setting: Setting,
+    site: Site,
     deep: usize,
     brackets: usize,
     place: Span,
     qualifier: Expr,
 ) -> Result<((Expr, usize), usize), Fault>
-    requires place { at ≤ length source.now.words }
-    requires tree { deep ≤ source.now.limits.trees }
-    requires bracket { brackets ≤ source.now.limits.brackets }
-    ensures reads { Gives calls (qualified_in (in_setting setting deep brackets) place qualifier) source.now at result }
-    ensures further { IfOk result (λ r. at ≤ r.1 × (r.1 ≤ length source.now.words)) }
-    ensures bounded { IfOk result (λ r. (1 ≤ r.0.1) × (deep + r.0.1 ≤ source.now.limits.trees + 1)) }
+    requires place { at ≤ length cursor.now.words }
+    requires tree { deep ≤ cursor.now.limits.trees }
+    requires bracket { brackets ≤ cursor.now.limits.brackets }
+    ensures reads { Gives calls (qualified_in (in_site site deep brackets) place qualifier) cursor.now at result }
+    ensures further { IfOk result (λ r. at ≤ r.1 × (r.1 ≤ length cursor.now.words)) }
+    ensures bounded { IfOk result (λ r. (1 ≤ r.0.1) × (deep + r.0.1 ≤ cursor.now.limits.trees + 1)) }
 {
-    if !source.is(at, TokenKind::Colon) {
+    if !cursor.is(at, TokenKind::Colon) {
         return Ok(((qualifier, 1), at));
     }
-    if deep >= source.trees() {
+    if deep >= cursor.trees() {
         return Err(Fault::Refused(at, Cause::TooDeep));
     }
-    if brackets >= source.brackets() {
+    if brackets >= cursor.brackets() {
         return Err(Fault::Refused(at, Cause::TooDeep));
     }
-    let Some(name) = source.atom(at + 1) else {
+    let Some(name) = cursor.atom(at + 1) else {
         return Err(Fault::Refused(at + 1, Cause::Syntax));
     };
-    if !source.is(at + 2, TokenKind::LeftParen) {
+    if !cursor.is(at + 2, TokenKind::LeftParen) {
         return Err(Fault::Refused(at + 2, Cause::Syntax));
     }
     let ((args, height), next) = exprs(
         alloc,
-        source,
+        cursor,
         at + 3,
-        setting,
+        site,
         deep + 1,
         brackets + 1,
         TokenKind::RightParen,

@@ -16,7 +16,7 @@ use Rattle.clause_read.specs.WantedForms.{anything, forms_in, ReadsForms}
 use Rattle.clause_read.specs.ReadText.{IsTold, told}
 use Rattle.clause_read.specs.declared.read.ReadCause.{ReadCause}
 use Rattle.clause_read.specs.declared.read.ReadCause.TheVariants as r
-use Rattle.pattern_read.specs.Source.{Readable, limits_of}
+use Rattle.pattern_read.specs.Cursor.{Readable, limits_of}
 use Rattle.pattern_read.specs.declared.fault.Fault.TheVariants.{Refused}
 use Rattle.std.proofs.lemmas.Bool.{cases_lt}
 

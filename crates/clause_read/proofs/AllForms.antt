@@ -13,7 +13,7 @@ use Rattle.pattern_read.specs.Reading.{Passes, nothing}
 use Rattle.clause_read.specs.WantedForms.{anything, forms_in, with_form, collected_before, Adds, ReadsForms}
 use Rattle.pattern_read.proofs.Passing.{and_then, refused_after, same_kinds, remade}
 use Rattle.clause_read.proofs.FormLaws.{no_more_forms, on_no_forms}
-use Rattle.pattern_read.specs.Source.{Readable}
+use Rattle.pattern_read.specs.Cursor.{Readable}
 
 -- the forms up to the place have been read
 abbrev pub Collects : Readable → ℕ → Collected → Type 0

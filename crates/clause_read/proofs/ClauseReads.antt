@@ -13,9 +13,9 @@ use Rattle.pattern_read.specs.declared.fault.Fault.{Fault}
 use Rattle.pattern_read.specs.declared.fault.Fault.TheVariants.{Memory, Refused}
 use Rattle.pattern_read.specs.declared.fault.Cause.TheVariants.{Syntax}
 use Rattle.clause_read.specs.declared.forms.ModuleForms.{ModuleForms}
-use Rattle.pattern_read.specs.declared.source.Numbered.{Numbered}
+use Rattle.pattern_read.specs.declared.cursor.Numbered.{Numbered}
 use Rattle.pattern_read.specs.Reading.{Passes, IsRefused, closed, Gives}
-use Rattle.pattern_read.specs.Source.{StandsAt, number_of}
+use Rattle.pattern_read.specs.Cursor.{StandsAt, number_of}
 use Rattle.pattern_read.specs.Wanted.{IsAt, NoMark}
 use Rattle.body_read.specs.WantedExprs.{body_longer, guarded_in, body_in}
 use Rattle.pattern_read.specs.WantedPatterns.{patterns_in}
@@ -25,7 +25,7 @@ use Rattle.pattern_read.proofs.Operands.{some_word}
 use Rattle.clause_read.proofs.FormSteps.{then_mark, then_no_mark, then_part, then_fault}
 use Rattle.clause_read.proofs.FormReads.{passes_at}
 use Rattle.clause_read.proofs.FunctionLaws.{in_head, in_clause, guard_and_body, clause_rest, clause_left, clause_at, on_clause, opens_rest, guard_spelled, body_spelled, no_clause, clauses_left, function_left, with_clauses, on_function, on_more_clauses, on_end_clauses, no_more_clauses, clauses_spelled, behind_clause, other_begins}
-use Rattle.pattern_read.specs.Source.{Readable}
+use Rattle.pattern_read.specs.Cursor.{Readable}
 
 -- ---- A clause
 

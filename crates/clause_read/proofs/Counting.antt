@@ -7,7 +7,7 @@ use Rattle.erl_syntax.specs.Word.{Word}
 use Rattle.erl_syntax.specs.Grammar.{Context, Limits, Goal, Mark, At, The, Of, Part, APattern, Pat, Patterns, MorePatterns, Produces, pattern, pat_variable, pat_wild, pat_integer, pat_signed, pat_character, pat_atom, pat_string, pat_paren, pat_tuple, pat_list, pat_bits, no_patterns, patterns, more_patterns, end_patterns, Spells, ends, takes, begins, this, expands}
 use Rattle.pattern_read.specs.Reading.{closed, Gives, IsWide}
 use Rattle.pattern_read.specs.WantedPatterns.{patterns_in}
-use Rattle.pattern_read.specs.Source.{Readable}
+use Rattle.pattern_read.specs.Cursor.{Readable}
 
 -- how many tokens a part needs at least, as far as patterns go
 abbrev need : Part → ℕ

@@ -13,15 +13,15 @@ use Rattle.pattern_read.specs.declared.fault.Cause.{Cause}
 use Rattle.pattern_read.specs.declared.fault.Cause.TheVariants.{Syntax, UnknownAttribute}
 use Rattle.pattern_read.specs.Reading.{Passes, IsRefused, closed, nothing, Gives}
 use Rattle.pattern_read.specs.Wanted.{IsAt, NoMark}
-use Rattle.pattern_read.specs.Source.{StandsAt, number_of}
-use Rattle.pattern_read.specs.declared.source.Numbered.{Numbered}
+use Rattle.pattern_read.specs.Cursor.{StandsAt, number_of}
+use Rattle.pattern_read.specs.declared.cursor.Numbered.{Numbered}
 use Rattle.clause_read.specs.WantedForms.{anything, forms_in, skipped_in, name_in, names_in, listed, TokenOf}
 use Rattle.pattern_read.proofs.Passing.{behind_closed, and_then, refused_after, same_kinds, at_token, refused_at, remade}
 use Rattle.pattern_read.proofs.Words.{is_yes}
 use Rattle.clause_read.proofs.FormSteps.{OpensFrom, Meaning, meaning, marked, worded, opens_marked, opens_worded, then_mark, then_no_mark, then_word, then_no_word, then_part, then_fault}
 use Rattle.clause_read.proofs.FormLaws.{no_attribute, unknown_attribute}
 use Rattle.clause_read.proofs.NameLaws.{on_skips, on_stop, skipped_refused, named_by, on_name, opens_nothing, more_names_in, name_and_more, on_no_names, on_names, on_next_name, on_last_name, no_more_names, more_names_spelled}
-use Rattle.pattern_read.specs.Source.{Readable}
+use Rattle.pattern_read.specs.Cursor.{Readable}
 use Rattle.erl_syntax.specs.Grammar.{Limits}
 
 pub no_attribute_at : (ws : Readable) (at : ℕ) → IsAt ws at k.Minus → NoMark k.Atom (drop (at + 1) ws.words) → IsRefused ws.limits anything forms_in (drop at ws.words) (drop (at + 1) ws.words) Syntax

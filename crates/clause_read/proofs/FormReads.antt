@@ -12,9 +12,9 @@ use Rattle.pattern_read.specs.declared.fault.Fault.TheVariants.{Memory, Refused}
 use Rattle.pattern_read.specs.declared.fault.Cause.TheVariants.{Syntax}
 use Rattle.clause_read.specs.declared.forms.ModuleForms.{ModuleForms}
 use Rattle.clause_read.specs.declared.forms.Attribute.TheVariants as a
-use Rattle.pattern_read.specs.declared.source.Numbered.{Numbered}
+use Rattle.pattern_read.specs.declared.cursor.Numbered.{Numbered}
 use Rattle.pattern_read.specs.Reading.{Passes, IsRefused, closed, Gives}
-use Rattle.pattern_read.specs.Source.{StandsAt, number_of}
+use Rattle.pattern_read.specs.Cursor.{StandsAt, number_of}
 use Rattle.pattern_read.specs.Wanted.{IsAt, NoMark, no_mark, no_mark_end}
 use Rattle.clause_read.specs.WantedForms.{anything, forms_in, skipped_in, names_in, with_head, with_exports, with_skipped, listed, Adds, AttributeAt, TokenOf}
 use Rattle.pattern_read.proofs.Passing.{behind_closed, at_token, remade, Spelled}
@@ -22,7 +22,7 @@ use Rattle.pattern_read.proofs.Operands.{mark_word}
 use Rattle.clause_read.proofs.FormSteps.{Opens, Meaning, meaning, marked, worded, opens_marked, opens_worded, then_mark, then_no_mark, then_word, then_no_word, then_part, then_fault}
 use Rattle.clause_read.proofs.FormLaws.{no_more_forms, forms_end, opens_forms, module_left, export_left, exports_left, skipped_left, head_at, on_module, on_export, on_skipped}
 use Rattle.clause_read.proofs.NameLaws.{names_spelled}
-use Rattle.pattern_read.specs.Source.{Readable}
+use Rattle.pattern_read.specs.Cursor.{Readable}
 use Rattle.erl_syntax.specs.Grammar.{Limits}
 
 -- the same at a place that is written otherwise

@@ -10,7 +10,7 @@ use Rattle.pattern_read.specs.Reading.{Passes, IsRefused, IsWide, SameHead, Give
 use Rattle.pattern_read.specs.Wanted.{IsAt, NoMark, no_mark, no_mark_end}
 use Rattle.pattern_read.proofs.Operands.{mark_word}
 use Rattle.pattern_read.proofs.Passing.{Behind, Spelled, and_then, refused_after, first_of_two, fault_after, fault_first, same_kinds, at_token}
-use Rattle.pattern_read.specs.Source.{Readable}
+use Rattle.pattern_read.specs.Cursor.{Readable}
 
 -- what is wanted has a spelling
 pub record Opens (most : Limits) {Y : Type 0} (b : Y → List Goal) : Type 0 where

@@ -9,7 +9,7 @@ use Rattle.erl_syntax.specs.declared.token.LexCause.TheVariants.{NoMemory}
 use Rattle.erl_syntax.specs.declared.module.Module.{Module}
 use Rattle.erl_syntax.specs.Word.{Word}
 use Rattle.erl_syntax.specs.Tokens.{Lexes, place}
-use Rattle.erl_syntax.specs.Reading.{Reads, longest_text, atoms_of, words_of, word_of, are_strings, before, joined}
+use Rattle.erl_syntax.specs.Reading.{Reads, longest_text, atoms_of, words_of, word_of, are_strings, before, strings_joined}
 use Rattle.erl_syntax.specs.Grammar.{Limits, Spells, ends, strict}
 use Rattle.erl_tokens.specs.Cutting.{IsFault}
 use Rattle.pattern_read.specs.declared.fault.Cause.{Cause}
@@ -18,8 +18,8 @@ use Rattle.clause_read.specs.declared.forms.ModuleForms.{ModuleForms}
 use Rattle.clause_read.specs.declared.read.ReadFault.{ReadFault}
 use Rattle.clause_read.specs.declared.read.ReadCause.{ReadCause}
 use Rattle.clause_read.specs.declared.read.ReadCause.TheVariants as r
-use Rattle.pattern_read.specs.declared.source.Numbered.{Numbered}
-use Rattle.pattern_read.specs.Source.{Readable, words}
+use Rattle.pattern_read.specs.declared.cursor.Numbered.{Numbered}
+use Rattle.pattern_read.specs.Cursor.{Readable, words}
 use Rattle.pattern_read.specs.Reading.{Passes, IsRefused, IsWide, Stops, SameHead, Follows, nothing}
 use Rattle.pattern_read.specs.declared.fault.Fault.TheVariants.{Refused}
 use Rattle.clause_read.specs.WantedForms.{anything, forms_in, ReadsForms}
@@ -124,12 +124,12 @@ pub token_none : OneReading → (text : List ℕ) (first : LexFault) (fault : Re
 token_none one text first fault (inl m) e = inl (ap (λ f. f.why) e ∙ ap told_of_token m)
 token_none one text first fault (inr d) e = inr (λ m r. some_no_none {x = first} (one text d.0 r.tokens (Some first) None d.1 r.lexes).1)
 
--- the words of a source that has the text and its numbered tokens
-pub source_words : (text copy : List ℕ) (tokens : List Token) (strings : List (List ℕ)) (numbered : List Numbered) (all : List Word) → all ≡ words copy strings numbered → copy ≡ text →
+-- the words of a cursor that has the text and its numbered tokens
+pub cursor_words : (text copy : List ℕ) (tokens : List Token) (strings : List (List ℕ)) (numbered : List Numbered) (all : List Word) → all ≡ words copy strings numbered → copy ≡ text →
     words text strings numbered ≡ words_of text (atoms_of text tokens) tokens → all ≡ words_of text (atoms_of text tokens) tokens
-source_words text copy tokens strings numbered all e s w = e ∙ ap (λ t. words t strings numbered) s ∙ w
+cursor_words text copy tokens strings numbered all e s w = e ∙ ap (λ t. words t strings numbered) s ∙ w
 
--- what is read of a source with the limits of modules
+-- what is read of a cursor with the limits of modules
 pub forms_strict : (s : Readable) (fs : ModuleForms) → s.limits ≡ strict → ReadsForms s (Ok fs) → Passes strict anything forms_in s.words nothing [] (λ u. fs)
 forms_strict s fs e g = let P : Limits → Type 0 = λ m. Passes m anything forms_in s.words nothing [] (λ u. fs) in subst P e g
 
@@ -148,15 +148,15 @@ before_short w (v ∷ ws) = by (are_strings w.kind v.kind)
     by true = omega arith
     by false = omega arith
 
-joined_short : (ws : List Word) → length (joined ws) ≤ length ws
+joined_short : (ws : List Word) → length (strings_joined ws) ≤ length ws
 joined_short [] = omega arith
-joined_short (w ∷ ws) = let h : length (joined ws) ≤ length ws = joined_short ws in let k : length (before w (joined ws)) ≤ 1 + length (joined ws) = before_short w (joined ws) in omega (arith, h, k)
+joined_short (w ∷ ws) = let h : length (strings_joined ws) ≤ length ws = joined_short ws in let k : length (before w (strings_joined ws)) ≤ 1 + length (strings_joined ws) = before_short w (strings_joined ws) in omega (arith, h, k)
 
-pub source_short : (text : List ℕ) (tokens : List Token) (all : List Word) (n : ℕ) → all ≡ words_of text (atoms_of text tokens) tokens → length tokens < n → length all < n
-source_short text tokens all n e h =
+pub cursor_short : (text : List ℕ) (tokens : List Token) (all : List Word) (n : ℕ) → all ≡ words_of text (atoms_of text tokens) tokens → length tokens < n → length all < n
+cursor_short text tokens all n e h =
     let f : Token → Word = word_of text (atoms_of text tokens) in
-    let s : length (joined (map f tokens)) ≤ length (map f tokens) = joined_short (map f tokens) in
-    let l : length all ≡ length (joined (map f tokens)) = ap length e in
+    let s : length (strings_joined (map f tokens)) ≤ length (map f tokens) = joined_short (map f tokens) in
+    let l : length all ≡ length (strings_joined (map f tokens)) = ap length e in
     let m : length (map f tokens) ≡ length tokens = length-map tokens f in omega (arith, l, s, m, h)
 
 pub refused_place : (text : List ℕ) (all : List Word) (at : ℕ) (last here : Span) → here ≡ place_in last (drop at all) → last ≡ place text (length text) → here ≡ place_in (place text (length text)) (drop at all)

@@ -4,8 +4,8 @@ use Rattle.std.proofs.Math.Seq.{drop-cons}
 use Rattle.std.proofs.Math.ListN.{drop_of_length-le}
 use Rattle.erl_syntax.specs.declared.span.Span.{Span}
 use Rattle.erl_syntax.specs.Tokens.{after, place_from}
-use Rattle.pattern_read.specs.declared.source.Numbered.{Numbered}
-use Rattle.pattern_read.specs.Source.{Readable, StandsAt}
+use Rattle.pattern_read.specs.declared.cursor.Numbered.{Numbered}
+use Rattle.pattern_read.specs.Cursor.{Readable, StandsAt}
 use Rattle.clause_read.specs.ReadText.{place_in}
 
 pub place_there : (ws : Readable) (at : ℕ) (n : Numbered) (last : Span) → StandsAt ws at n → n.token.span ≡ place_in last (drop at ws.words)

@@ -9,12 +9,12 @@ use Rattle.std.proofs.lemmas.List.Elements.{All-from_recursion, recursion_from_A
 use Rattle.erl_syntax.specs.Word.{Word}
 use Rattle.erl_syntax.specs.Characters.{string_characters}
 use Rattle.erl_syntax.specs.Tokens.{token_text}
-use Rattle.erl_syntax.specs.Reading.{number_of, after_token, after_tokens, word_of, are_strings, before, joined, characters_of}
+use Rattle.erl_syntax.specs.Reading.{number_of, after_token, after_tokens, word_of, are_strings, before, strings_joined, characters_of}
 use Rattle.erl_syntax.specs.declared.token.Token.{Token}
 use Rattle.erl_syntax.specs.declared.token.TokenKind.{TokenKind}
 use Rattle.erl_syntax.specs.declared.token.TokenKind.TheVariants as k
-use Rattle.pattern_read.specs.declared.source.Numbered.{Numbered}
-use Rattle.pattern_read.specs.Source.{IsSound, words, characters_in, number_of as number_with, word_of as word_with}
+use Rattle.pattern_read.specs.declared.cursor.Numbered.{Numbered}
+use Rattle.pattern_read.specs.Cursor.{IsSound, words, characters_in, number_of as number_with, word_of as word_with}
 use Rattle.clause_read.specs.Numbering.{words_after, BeginsString, NoString, ended, other, string_word, IsString}
 
 -- ---- Two strings, and a string before another word
@@ -52,18 +52,18 @@ string_table : (text : List ℕ) (table : List (List ℕ)) (t : Token) (ts : Lis
 string_table text table t ts e = ap (λ kind. after_tokens text (after_token table kind (token_text text t)) ts) e
 
 string_words : (text : List ℕ) (table : List (List ℕ)) (t : Token) (ts : List Token) → t.kind ≡ k.Str →
-    joined (words_after text table (t ∷ ts)) ≡ before (string_word t (string_characters (token_text text t))) (joined (words_after text table ts))
+    strings_joined (words_after text table (t ∷ ts)) ≡ before (string_word t (string_characters (token_text text t))) (strings_joined (words_after text table ts))
 string_words text table t ts e =
     let bs : List ℕ = token_text text t in
     let f : TokenKind → List Word = λ kind.
     let w : Word = record { kind = kind; at = t.span; number = number_of (after_token table kind bs) kind bs; chars = characters_of kind bs } in
-    before w (joined (words_after text (after_token table kind bs) ts)) in
+    before w (strings_joined (words_after text (after_token table kind bs) ts)) in
     ap f e
 
 -- what tokens spell is a string of those characters, at the first one's place, before what those behind it spell
 pub record IsOpen (text : List ℕ) (tokens behind : List Token) (first : Token) (chars : List ℕ) : Type 0 where
   pub table : (table : List (List ℕ)) → after_tokens text table tokens ≡ after_tokens text table behind
-  pub words : (table : List (List ℕ)) → joined (words_after text table tokens) ≡ before (string_word first chars) (joined (words_after text table behind))
+  pub words : (table : List (List ℕ)) → strings_joined (words_after text table tokens) ≡ before (string_word first chars) (strings_joined (words_after text table behind))
 
 pub open_first : (text : List ℕ) (first : Token) (behind : List Token) → first.kind ≡ k.Str → IsOpen text (first ∷ behind) behind first (string_characters (token_text text first))
 open_first text first behind e = record { table = λ table. string_table text table first behind e; words = λ table. string_words text table first behind e }
@@ -74,16 +74,16 @@ open_more text tokens first t behind chars e o = record {
   table = λ table. o.table table ∙ string_table text table t behind e;
   words = λ table.
       o.words table ∙ ap (before (string_word first chars)) (string_words text table t behind e)
-      ∙ strings_at_once first t chars (string_characters (token_text text t)) (joined (words_after text table behind));
+      ∙ strings_at_once first t chars (string_characters (token_text text t)) (strings_joined (words_after text table behind));
 }
 
 closed_words : (text : List ℕ) (table : List (List ℕ)) (first : Token) (chars : List ℕ) (behind : List Token) → NoString behind →
-    before (string_word first chars) (joined (words_after text table behind)) ≡ string_word first chars ∷ joined (words_after text table behind)
+    before (string_word first chars) (strings_joined (words_after text table behind)) ≡ string_word first chars ∷ strings_joined (words_after text table behind)
 closed_words text table first chars _ ended = refl
 closed_words text table first chars _ (other t ts f) =
     let next : List (List ℕ) = after_token table t.kind (token_text text t) in
     let w : Word = word_of text next t in
-    let ws : List Word = joined (words_after text next ts) in
+    let ws : List Word = strings_joined (words_after text next ts) in
     let e : before w ws ≡ w ∷ ws = stays_alone w ws f in
     ap (before (string_word first chars)) e ∙ string_alone first chars w ws f ∙ ap (λ us. string_word first chars ∷ us) (sym e)
 

@@ -3,10 +3,10 @@ use Rattle.std.specs.Prelude.{◌≡◌, ◌≢◌, ℕ, ◌+◌, ◌≤◌, Lis
 use Rattle.erl_syntax.specs.Word.{Word}
 use Rattle.erl_syntax.specs.Tokens.{token_text}
 use Rattle.erl_syntax.specs.Atoms.{fixed_atoms}
-use Rattle.erl_syntax.specs.Reading.{word_of, after_token, after_tokens, atoms_of, with_atom, joined}
+use Rattle.erl_syntax.specs.Reading.{word_of, after_token, after_tokens, atoms_of, with_atom, strings_joined}
 use Rattle.erl_syntax.specs.declared.token.Token.{Token}
 use Rattle.erl_syntax.specs.declared.token.TokenKind.TheVariants as k
-use Rattle.pattern_read.specs.Source.{IsSound, words}
+use Rattle.pattern_read.specs.Cursor.{IsSound, words}
 use Rattle.clause_read.specs.declared.numbering.Numbering.{Numbering}
 
 -- the words of tokens, where each token has the number that its table gives when it has been read
@@ -38,12 +38,12 @@ string_word t chars = record { kind = k.Str; at = t.span; number = 0; chars = ch
 -- what tokens spell is one string, at the first one's place, and what those behind it spell, whatever the table
 pub record IsString (text : List ℕ) (tokens behind : List Token) (first : Token) (chars : List ℕ) : Type 0 where
   pub table : (table : List (List ℕ)) → after_tokens text table tokens ≡ after_tokens text table behind
-  pub words : (table : List (List ℕ)) → joined (words_after text table tokens) ≡ string_word first chars ∷ joined (words_after text table behind)
+  pub words : (table : List (List ℕ)) → strings_joined (words_after text table tokens) ≡ string_word first chars ∷ strings_joined (words_after text table behind)
 
 -- the tokens before that index are numbered
 pub record IsNumberedTo (text : List ℕ) (tokens : List Token) (at : ℕ) (n : Numbering) : Type 0 where
   pub table : after_tokens text n.atoms (drop at tokens) ≡ atoms_of text tokens
-  pub words : words text n.strings.items n.read.items ++ joined (words_after text n.atoms (drop at tokens)) ≡ joined (words_after text fixed_atoms tokens)
+  pub words : words text n.strings.items n.read.items ++ strings_joined (words_after text n.atoms (drop at tokens)) ≡ strings_joined (words_after text fixed_atoms tokens)
   pub sound : All (IsSound text n.strings.items) n.read.items
   pub atoms : length n.atoms ≤ 15 + at
   pub strings : length n.strings.items ≤ at

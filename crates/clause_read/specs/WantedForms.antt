@@ -21,9 +21,9 @@ use Rattle.clause_read.specs.declared.forms.Form.{Form}
 use Rattle.clause_read.specs.declared.forms.Form.TheVariants as f
 use Rattle.clause_read.specs.declared.forms.Collected.{Collected}
 use Rattle.pattern_read.specs.declared.fault.Cause.TheVariants.{Syntax}
-use Rattle.pattern_read.specs.declared.source.Numbered.{Numbered}
+use Rattle.pattern_read.specs.declared.cursor.Numbered.{Numbered}
 use Rattle.pattern_read.specs.Reading.{Passes, IsRefused, nothing}
-use Rattle.pattern_read.specs.Source.{Readable, StandsAt}
+use Rattle.pattern_read.specs.Cursor.{Readable, StandsAt}
 use Rattle.pattern_read.specs.Wanted.{NoMark}
 
 -- what ends only with the text could go on with any token

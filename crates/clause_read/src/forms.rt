@@ -12,9 +12,9 @@ ghost use Rattle.clause_read.specs.WantedForms.{clause_in, collected_before, wit
 
 use body_read::bodies::{body, guarded};
 use erl_syntax::{Clause, Function, Head, Listed, Name, TokenKind};
+use pattern_read::cursor::{Cursor, Numbered};
 use pattern_read::fault::{Cause, Fault};
 use pattern_read::patterns::patterns;
-use pattern_read::source::{Numbered, Source};
 use std::alloc::Global;
 
 /// What the forms of a module hold, each in the order of the text.
@@ -103,17 +103,17 @@ fn attribute_named(characters: &[u8]) -> Option<Attribute>
 }
 
 /// The attribute of a form that begins with `-`.
-fn attribute_at(alloc: Global, source: &Source, at: usize) -> Result<Attribute, Fault>
-    requires begins { IsAt source.now at k.Minus }
-    requires place { at < length source.now.words }
-    requires short { length source.now.words < 2 ^ 64 }
-    ensures attribute { BeginsForm source.now at result }
-    ensures within { OnOk result (at + 2 ≤ length source.now.words) }
+fn attribute_at(alloc: Global, cursor: &Cursor, at: usize) -> Result<Attribute, Fault>
+    requires begins { IsAt cursor.now at k.Minus }
+    requires place { at < length cursor.now.words }
+    requires short { length cursor.now.words < 2 ^ 64 }
+    ensures attribute { BeginsForm cursor.now at result }
+    ensures within { OnOk result (at + 2 ≤ length cursor.now.words) }
 {
-    if !source.is(at + 1, TokenKind::Atom) {
+    if !cursor.is(at + 1, TokenKind::Atom) {
         return Err(Fault::Refused(at + 1, Cause::Syntax));
     }
-    let characters = source.atom_characters(alloc, at + 1)?;
+    let characters = cursor.atom_characters(alloc, at + 1)?;
     match attribute_named(characters.bytes()) {
         Some(attribute) => Ok(attribute),
         None => Err(Fault::Refused(at + 1, Cause::UnknownAttribute)),
@@ -121,13 +121,13 @@ fn attribute_at(alloc: Global, source: &Source, at: usize) -> Result<Attribute, 
 }
 
 /// The rest of a form that has no effect.
-fn skipped(source: &Source, at: usize) -> Result<((), usize), Fault>
-    requires place { at ≤ length source.now.words }
-    ensures reads { Gives closed skipped_in source.now at result }
-    ensures further { IfOk result (λ r. at < r.1 × (r.1 ≤ length source.now.words)) }
+fn skipped(cursor: &Cursor, at: usize) -> Result<((), usize), Fault>
+    requires place { at ≤ length cursor.now.words }
+    ensures reads { Gives closed skipped_in cursor.now at result }
+    ensures further { IfOk result (λ r. at < r.1 × (r.1 ≤ length cursor.now.words)) }
 {
     let mut next = at;
-    while let Some(numbered) = source.token(next) {
+    while let Some(numbered) = cursor.token(next) {
         if numbered.token.kind == TokenKind::FullStop {
             return Ok(((), next + 1));
         }
@@ -149,13 +149,13 @@ fn named(atom: Numbered, arity: Numbered) -> Name
 }
 
 /// A token of that kind.
-fn token_of(source: &Source, at: usize, kind: TokenKind) -> Result<Numbered, Fault>
-    requires { at ≤ length source.now.words }
-    ensures token { TokenOf source.now at kind result }
-    ensures within { IfOk result (λ n. (n.value < 2 ^ 127) × (at < length source.now.words)) }
-    ensures short { length source.now.words < 2 ^ 64 }
+fn token_of(cursor: &Cursor, at: usize, kind: TokenKind) -> Result<Numbered, Fault>
+    requires { at ≤ length cursor.now.words }
+    ensures token { TokenOf cursor.now at kind result }
+    ensures within { IfOk result (λ n. (n.value < 2 ^ 127) × (at < length cursor.now.words)) }
+    ensures short { length cursor.now.words < 2 ^ 64 }
 {
-    let Some(numbered) = source.token(at) else {
+    let Some(numbered) = cursor.token(at) else {
         return Err(Fault::Refused(at, Cause::Syntax));
     };
     if numbered.token.kind == kind {
@@ -166,35 +166,35 @@ fn token_of(source: &Source, at: usize, kind: TokenKind) -> Result<Numbered, Fau
 }
 
 /// A name with its number of arguments.
-fn name(source: &Source, at: usize) -> Result<(Name, usize), Fault>
-    requires place { at ≤ length source.now.words }
-    ensures reads { Gives closed name_in source.now at result }
-    ensures further { IfOk result (λ r. at < r.1 × (r.1 ≤ length source.now.words)) }
+fn name(cursor: &Cursor, at: usize) -> Result<(Name, usize), Fault>
+    requires place { at ≤ length cursor.now.words }
+    ensures reads { Gives closed name_in cursor.now at result }
+    ensures further { IfOk result (λ r. at < r.1 × (r.1 ≤ length cursor.now.words)) }
 {
-    let atom = token_of(source, at, TokenKind::Atom)?;
-    token_of(source, at + 1, TokenKind::Slash)?;
-    let arity = token_of(source, at + 2, TokenKind::Integer)?;
+    let atom = token_of(cursor, at, TokenKind::Atom)?;
+    token_of(cursor, at + 1, TokenKind::Slash)?;
+    let arity = token_of(cursor, at + 2, TokenKind::Integer)?;
     Ok((named(atom, arity), at + 3))
 }
 
 /// Names up to the closing bracket.
-fn names(alloc: Global, source: &Source, at: usize) -> Result<(Vec<Name>, usize), Fault>
-    requires place { at ≤ length source.now.words }
-    ensures reads { Gives closed names_in source.now at (listed result) }
-    ensures further { IfOk result (λ r. at < r.1 × (r.1 ≤ length source.now.words)) }
+fn names(alloc: Global, cursor: &Cursor, at: usize) -> Result<(Vec<Name>, usize), Fault>
+    requires place { at ≤ length cursor.now.words }
+    ensures reads { Gives closed names_in cursor.now at (listed result) }
+    ensures further { IfOk result (λ r. at < r.1 × (r.1 ≤ length cursor.now.words)) }
 {
     let mut names = Vec::new(alloc);
-    if source.is(at, TokenKind::RightBracket) {
+    if cursor.is(at, TokenKind::RightBracket) {
         return Ok((names, at + 1));
     }
     let mut next = at;
     loop {
-        let (one, after) = name(source, next)?;
+        let (one, after) = name(cursor, next)?;
         names.push(one)?;
-        if source.is(after, TokenKind::RightBracket) {
+        if cursor.is(after, TokenKind::RightBracket) {
             return Ok((names, after + 1));
         }
-        if !source.is(after, TokenKind::Comma) {
+        if !cursor.is(after, TokenKind::Comma) {
             return Err(Fault::Refused(after, Cause::Syntax));
         }
         next = after + 1;
@@ -202,18 +202,18 @@ fn names(alloc: Global, source: &Source, at: usize) -> Result<(Vec<Name>, usize)
 }
 
 /// A `-module` form.
-fn module_form(source: &Source, at: usize) -> Result<(Head, usize), Fault>
-    requires begins { AttributeAt source.now at a.Module }
-    requires place { at + 2 ≤ length source.now.words }
-    requires short { length source.now.words < 2 ^ 64 }
-    ensures reads { Adds with_head source.now at result }
-    ensures further { IfOk result (λ r. at < r.1 × (r.1 ≤ length source.now.words)) }
+fn module_form(cursor: &Cursor, at: usize) -> Result<(Head, usize), Fault>
+    requires begins { AttributeAt cursor.now at a.Module }
+    requires place { at + 2 ≤ length cursor.now.words }
+    requires short { length cursor.now.words < 2 ^ 64 }
+    ensures reads { Adds with_head cursor.now at result }
+    ensures further { IfOk result (λ r. at < r.1 × (r.1 ≤ length cursor.now.words)) }
 {
-    let minus = token_of(source, at, TokenKind::Minus)?;
-    token_of(source, at + 2, TokenKind::LeftParen)?;
-    let name = token_of(source, at + 3, TokenKind::Atom)?;
-    token_of(source, at + 4, TokenKind::RightParen)?;
-    token_of(source, at + 5, TokenKind::FullStop)?;
+    let minus = token_of(cursor, at, TokenKind::Minus)?;
+    token_of(cursor, at + 2, TokenKind::LeftParen)?;
+    let name = token_of(cursor, at + 3, TokenKind::Atom)?;
+    token_of(cursor, at + 4, TokenKind::RightParen)?;
+    token_of(cursor, at + 5, TokenKind::FullStop)?;
     let head = Head {
         at: minus.token.span,
         name: name.number,
@@ -222,46 +222,46 @@ fn module_form(source: &Source, at: usize) -> Result<(Head, usize), Fault>
 }
 
 /// An `-export` form.
-fn export_form(alloc: Global, source: &Source, at: usize) -> Result<(Vec<Name>, usize), Fault>
-    requires begins { AttributeAt source.now at a.Export }
-    requires place { at + 2 ≤ length source.now.words }
-    requires short { length source.now.words < 2 ^ 64 }
-    ensures reads { Adds with_exports source.now at (listed result) }
-    ensures further { IfOk result (λ r. at < r.1 × (r.1 ≤ length source.now.words)) }
+fn export_form(alloc: Global, cursor: &Cursor, at: usize) -> Result<(Vec<Name>, usize), Fault>
+    requires begins { AttributeAt cursor.now at a.Export }
+    requires place { at + 2 ≤ length cursor.now.words }
+    requires short { length cursor.now.words < 2 ^ 64 }
+    ensures reads { Adds with_exports cursor.now at (listed result) }
+    ensures further { IfOk result (λ r. at < r.1 × (r.1 ≤ length cursor.now.words)) }
 {
-    token_of(source, at + 2, TokenKind::LeftParen)?;
-    token_of(source, at + 3, TokenKind::LeftBracket)?;
-    let (exported, next) = names(alloc, source, at + 4)?;
-    token_of(source, next, TokenKind::RightParen)?;
-    token_of(source, next + 1, TokenKind::FullStop)?;
+    token_of(cursor, at + 2, TokenKind::LeftParen)?;
+    token_of(cursor, at + 3, TokenKind::LeftBracket)?;
+    let (exported, next) = names(alloc, cursor, at + 4)?;
+    token_of(cursor, next, TokenKind::RightParen)?;
+    token_of(cursor, next + 1, TokenKind::FullStop)?;
     Ok((exported, next + 2))
 }
 
 /// A form that has no effect.
-fn skipped_form(source: &Source, at: usize) -> Result<((), usize), Fault>
-    requires begins { AttributeAt source.now at a.Skipped }
-    requires place { at + 2 ≤ length source.now.words }
-    requires short { length source.now.words < 2 ^ 64 }
-    ensures reads { Adds with_skipped source.now at result }
-    ensures further { IfOk result (λ r. at < r.1 × (r.1 ≤ length source.now.words)) }
+fn skipped_form(cursor: &Cursor, at: usize) -> Result<((), usize), Fault>
+    requires begins { AttributeAt cursor.now at a.Skipped }
+    requires place { at + 2 ≤ length cursor.now.words }
+    requires short { length cursor.now.words < 2 ^ 64 }
+    ensures reads { Adds with_skipped cursor.now at result }
+    ensures further { IfOk result (λ r. at < r.1 × (r.1 ≤ length cursor.now.words)) }
 {
-    skipped(source, at + 2)
+    skipped(cursor, at + 2)
 }
 
 /// A clause of a function.
-fn clause(alloc: Global, source: &Source, at: usize) -> Result<(Clause, usize), Fault>
-    requires place { at ≤ length source.now.words }
-    requires trees { 1 ≤ source.now.limits.trees }
-    requires brackets { 1 ≤ source.now.limits.brackets }
-    ensures reads { Gives body_longer clause_in source.now at result }
-    ensures further { IfOk result (λ r. at < r.1 × (r.1 ≤ length source.now.words)) }
-    ensures few { IfOk result (λ r. length r.0.patterns ≤ length source.now.words) }
+fn clause(alloc: Global, cursor: &Cursor, at: usize) -> Result<(Clause, usize), Fault>
+    requires place { at ≤ length cursor.now.words }
+    requires trees { 1 ≤ cursor.now.limits.trees }
+    requires brackets { 1 ≤ cursor.now.limits.brackets }
+    ensures reads { Gives body_longer clause_in cursor.now at result }
+    ensures further { IfOk result (λ r. at < r.1 × (r.1 ≤ length cursor.now.words)) }
+    ensures few { IfOk result (λ r. length r.0.patterns ≤ length cursor.now.words) }
 {
-    let name = token_of(source, at, TokenKind::Atom)?;
-    token_of(source, at + 1, TokenKind::LeftParen)?;
-    let ((patterns, _), after) = patterns(alloc, source, at + 2, 1, 1, TokenKind::RightParen)?;
-    let ((guard, _), next) = guarded(alloc, source, after, 1, 0)?;
-    let ((body, _), end) = body(alloc, source, next, 1, 0)?;
+    let name = token_of(cursor, at, TokenKind::Atom)?;
+    token_of(cursor, at + 1, TokenKind::LeftParen)?;
+    let ((patterns, _), after) = patterns(alloc, cursor, at + 2, 1, 1, TokenKind::RightParen)?;
+    let ((guard, _), next) = guarded(alloc, cursor, after, 1, 0)?;
+    let ((body, _), end) = body(alloc, cursor, next, 1, 0)?;
     let clause = Clause {
         at: name.token.span,
         name: name.number,
@@ -273,27 +273,27 @@ fn clause(alloc: Global, source: &Source, at: usize) -> Result<(Clause, usize), 
 }
 
 /// The clauses of a function, up to the full stop.
-fn function(alloc: Global, source: &Source, at: usize) -> Result<(Function, usize), Fault>
-    requires other { NoMark k.Minus (drop at source.now.words) }
-    requires place { at < length source.now.words }
-    requires short { length source.now.words < 2 ^ 32 }
-    requires trees { 1 ≤ source.now.limits.trees }
-    requires brackets { 1 ≤ source.now.limits.brackets }
-    ensures reads { Adds with_function source.now at result }
-    ensures further { IfOk result (λ r. at < r.1 × (r.1 ≤ length source.now.words)) }
+fn function(alloc: Global, cursor: &Cursor, at: usize) -> Result<(Function, usize), Fault>
+    requires other { NoMark k.Minus (drop at cursor.now.words) }
+    requires place { at < length cursor.now.words }
+    requires short { length cursor.now.words < 2 ^ 32 }
+    requires trees { 1 ≤ cursor.now.limits.trees }
+    requires brackets { 1 ≤ cursor.now.limits.brackets }
+    ensures reads { Adds with_function cursor.now at result }
+    ensures further { IfOk result (λ r. at < r.1 × (r.1 ≤ length cursor.now.words)) }
 {
-    let (first, after) = clause(alloc, source, at)?;
+    let (first, after) = clause(alloc, cursor, at)?;
     let name = first.name;
     let arity = first.patterns.items().len() as u32;
     let mut clauses = Vec::new(alloc);
     clauses.push(first)?;
     let mut next = after;
-    while source.is(next, TokenKind::Semicolon) {
-        let (more, behind) = clause(alloc, source, next + 1)?;
+    while cursor.is(next, TokenKind::Semicolon) {
+        let (more, behind) = clause(alloc, cursor, next + 1)?;
         clauses.push(more)?;
         next = behind;
     }
-    if !source.is(next, TokenKind::FullStop) {
+    if !cursor.is(next, TokenKind::FullStop) {
         return Err(Fault::Refused(next, Cause::Syntax));
     }
     let clauses = Listed::of(clauses);
@@ -308,40 +308,40 @@ fn function(alloc: Global, source: &Source, at: usize) -> Result<(Function, usiz
 }
 
 /// One form.
-fn read_form(alloc: Global, source: &Source, at: usize) -> Result<(Form, usize), Fault>
-    requires place { at < length source.now.words }
-    requires short { length source.now.words < 2 ^ 32 }
-    requires trees { 1 ≤ source.now.limits.trees }
-    requires brackets { 1 ≤ source.now.limits.brackets }
-    ensures reads { Adds with_form source.now at result }
-    ensures further { IfOk result (λ r. at < r.1 × (r.1 ≤ length source.now.words)) }
+fn read_form(alloc: Global, cursor: &Cursor, at: usize) -> Result<(Form, usize), Fault>
+    requires place { at < length cursor.now.words }
+    requires short { length cursor.now.words < 2 ^ 32 }
+    requires trees { 1 ≤ cursor.now.limits.trees }
+    requires brackets { 1 ≤ cursor.now.limits.brackets }
+    ensures reads { Adds with_form cursor.now at result }
+    ensures further { IfOk result (λ r. at < r.1 × (r.1 ≤ length cursor.now.words)) }
 {
-    if !source.is(at, TokenKind::Minus) {
-        let (one, next) = function(alloc, source, at)?;
+    if !cursor.is(at, TokenKind::Minus) {
+        let (one, next) = function(alloc, cursor, at)?;
         return Ok((Form::Function(one), next));
     }
-    match attribute_at(alloc, source, at)? {
+    match attribute_at(alloc, cursor, at)? {
         Attribute::Module => {
-            let (head, next) = module_form(source, at)?;
+            let (head, next) = module_form(cursor, at)?;
             Ok((Form::Head(head), next))
         }
         Attribute::Export => {
-            let (exported, next) = export_form(alloc, source, at)?;
+            let (exported, next) = export_form(alloc, cursor, at)?;
             Ok((Form::Exports(exported), next))
         }
         Attribute::Skipped => {
-            let (_, next) = skipped_form(source, at)?;
+            let (_, next) = skipped_form(cursor, at)?;
             Ok((Form::Skipped, next))
         }
     }
 }
 
 /// The forms of a text.
-pub fn read_forms(alloc: Global, source: &Source) -> Result<ModuleForms, Fault>
-    requires short { length source.now.words < 2 ^ 32 }
-    requires trees { 1 ≤ source.now.limits.trees }
-    requires brackets { 1 ≤ source.now.limits.brackets }
-    ensures { ReadsForms source.now result }
+pub fn read_forms(alloc: Global, cursor: &Cursor) -> Result<ModuleForms, Fault>
+    requires short { length cursor.now.words < 2 ^ 32 }
+    requires trees { 1 ≤ cursor.now.limits.trees }
+    requires brackets { 1 ≤ cursor.now.limits.brackets }
+    ensures { ReadsForms cursor.now result }
 {
     let mut collected = Collected {
         heads: Vec::new(alloc),
@@ -349,8 +349,8 @@ pub fn read_forms(alloc: Global, source: &Source) -> Result<ModuleForms, Fault>
         functions: Vec::new(alloc),
     };
     let mut at = 0;
-    while source.token(at).is_some() {
-        let (form, next) = read_form(alloc, source, at)?;
+    while cursor.token(at).is_some() {
+        let (form, next) = read_form(alloc, cursor, at)?;
         collected.push(form)?;
         at = next;
     }

@@ -6,13 +6,13 @@ ghost use Rattle.erl_syntax.specs.Reading.{with_atom, number_in, after_token, at
 ghost use Rattle.erl_syntax.specs.Tokens.{IsWithin, token_text};
 ghost use Rattle.erl_syntax.specs.declared.token.TokenKind.TheVariants as k;
 ghost use Rattle.erl_tokens.specs.Values.{IsInteger, AllIntegers};
-ghost use Rattle.pattern_read.specs.Source.{IsSound, words, word_of as word_with};
+ghost use Rattle.pattern_read.specs.Cursor.{IsSound, words, word_of as word_with};
 ghost use Rattle.clause_read.specs.Numbering.{with_each, BeginsString, NoString, IsString, IsNumberedTo};
 
 use erl_syntax::{FIXED_ATOMS, Listed, Text, Token, TokenKind};
 use erl_tokens::{atom_text, character_number, integer_value, string_characters};
 use indexmap::IndexSet;
-use pattern_read::source::Numbered;
+use pattern_read::cursor::Numbered;
 use std::alloc::{AllocError, Global};
 use std::marker::Model;
 

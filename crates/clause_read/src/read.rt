@@ -10,8 +10,8 @@ use crate::numbering::number;
 use crate::second::told_of;
 use erl_syntax::{LONGEST_TEXT, LexCause, LexFault, Listed, Module, Span, Text};
 use erl_tokens::{one_reading, place_after, tokens};
+use pattern_read::cursor::Cursor;
 use pattern_read::fault::Fault;
-use pattern_read::source::Source;
 use std::alloc::{AllocError, Global};
 
 /// Why a text isn't read as a module.
@@ -87,13 +87,13 @@ fn fault_at(at: Span, why: ReadCause) -> ReadFault
 }
 
 /// The place of the token of that index, or the end of the text.
-fn place_of(source: &Source, at: usize, last: Span) -> Span
-    ensures { result ≡ place_in last (drop at source.now.words) }
+fn place_of(cursor: &Cursor, at: usize, last: Span) -> Span
+    ensures { result ≡ place_in last (drop at cursor.now.words) }
 {
-    if source.len() <= at {
+    if cursor.len() <= at {
         return last;
     }
-    match source.token(at) {
+    match cursor.token(at) {
         Some(numbered) => numbered.token.span,
         None => last,
     }
@@ -108,7 +108,7 @@ fn end_of(text: &[u8]) -> Span
 }
 
 /// A module of its parts.
-fn module_of(forms: ModuleForms, atoms: Listed<Text>, last: Span) -> Module
+fn module_from(forms: ModuleForms, atoms: Listed<Text>, last: Span) -> Module
     ensures { result ≡ record { heads = forms.heads; exports = forms.exports; functions = forms.functions; atoms = atoms; last = last } }
 {
     Module {
@@ -138,14 +138,14 @@ pub fn read_module(alloc: Global, text: &[u8]) -> Result<Module, ReadFault>
     let found = tokens(alloc, text)?;
     let numbering = number(alloc, text, found.as_slice())?;
     let atoms = numbering.atoms.names(alloc)?;
-    let source = Source::of(text.to_vec(alloc)?, numbering.strings, numbering.read);
+    let cursor = Cursor::of(text.to_vec(alloc)?, numbering.strings, numbering.read);
     let last = end_of(text);
-    match read_forms(alloc, &source) {
-        Ok(forms) => Ok(module_of(forms, atoms, last)),
+    match read_forms(alloc, &cursor) {
+        Ok(forms) => Ok(module_from(forms, atoms, last)),
         Err(Fault::Memory) => Err(fault_at(Span { line: 1, column: 1 }, ReadCause::NoMemory)),
         Err(Fault::Refused(at, why)) => {
-            let place = place_of(&source, at, last);
-            Err(fault_at(place, told_of(alloc, source, at, why)))
+            let place = place_of(&cursor, at, last);
+            Err(fault_at(place, told_of(alloc, cursor, at, why)))
         }
     }
 }

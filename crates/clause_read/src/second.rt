@@ -8,8 +8,8 @@ ghost use Rattle.clause_read.specs.declared.read.ReadCause.TheVariants.{NoMemory
 
 use crate::forms::read_forms;
 use crate::read::ReadCause;
+use pattern_read::cursor::Cursor;
 use pattern_read::fault::{Cause, Fault};
-use pattern_read::source::Source;
 use std::alloc::Global;
 
 /// A refused token's cause as it is told. If it is open, that memory ran out.
@@ -50,14 +50,14 @@ fn count_to(at: usize, count: usize) -> usize
 /// Two things are not proved, and in place of each the answer is that memory ran out: that this reading doesn't leave the cause
 /// open too (that would take trees or brackets of 2^32 levels), and that no text which ends where the cause is open is a module
 /// past the limits.
-fn read_again(alloc: Global, source: Source, at: usize) -> ReadCause
-    requires short { length source.words < 2 ^ 32 }
-    requires limits { source.limits ≡ strict }
-    requires open_ { IsRefused strict anything forms_in source.words (drop at source.words) Undecided }
-    ensures { (result ≡ NoMemory) ⊎ IsTold source.words (drop at source.words) result }
+fn read_again(alloc: Global, cursor: Cursor, at: usize) -> ReadCause
+    requires short { length cursor.words < 2 ^ 32 }
+    requires limits { cursor.limits ≡ strict }
+    requires open_ { IsRefused strict anything forms_in cursor.words (drop at cursor.words) Undecided }
+    ensures { (result ≡ NoMemory) ⊎ IsTold cursor.words (drop at cursor.words) result }
 {
-    let count = source.len();
-    let front = source.front(count_to(at, count));
+    let count = cursor.len();
+    let front = cursor.front(count_to(at, count));
     match read_forms(alloc, &front) {
         Ok(_) => behind(at, count),
         Err(Fault::Memory) => ReadCause::NoMemory,
@@ -72,14 +72,14 @@ fn read_again(alloc: Global, source: Source, at: usize) -> ReadCause
 }
 
 /// The cause that is told of the token of that index, with which no module goes on.
-pub(crate) fn told_of(alloc: Global, source: Source, at: usize, why: Cause) -> ReadCause
-    requires short { length source.words < 2 ^ 32 }
-    requires limits { source.limits ≡ strict }
-    requires refused { IsRefused strict anything forms_in source.words (drop at source.words) why }
-    ensures { (result ≡ NoMemory) ⊎ IsTold source.words (drop at source.words) result }
+pub(crate) fn told_of(alloc: Global, cursor: Cursor, at: usize, why: Cause) -> ReadCause
+    requires short { length cursor.words < 2 ^ 32 }
+    requires limits { cursor.limits ≡ strict }
+    requires refused { IsRefused strict anything forms_in cursor.words (drop at cursor.words) why }
+    ensures { (result ≡ NoMemory) ⊎ IsTold cursor.words (drop at cursor.words) result }
 {
     match why {
-        Cause::Undecided => read_again(alloc, source, at),
+        Cause::Undecided => read_again(alloc, cursor, at),
         cause => decided(cause),
     }
 }

@@ -15,7 +15,7 @@ use Rattle.erl_syntax.specs.declared.clause.Branch.{Branch as IfBranch}
 use Rattle.erl_syntax.specs.declared.clause.Item.{Item}
 use Rattle.term_value.specs.Value.{VInt, VAtom, VPid, VTuple, VList, VBits}
 use Rattle.term_value.specs.Tree.{Target, Anything, Variable, Equal, Guard, Pattern}
-use Rattle.term_value.specs.Read.{Reading, Read, Piece, Line, Branch, Qualifier, signed_target, target_of, atom_name, module_of}
+use Rattle.term_value.specs.Read.{Reading, Read, Piece, Line, Branch, Qualifier, signed_target, target_of, atom_name, called_module}
 use Rattle.term_value.specs.ReadTrees.{expr_layer, pattern_layer, qual_layer, alt_layer, branch_layer, guard_layer, item_layer, segment_layer}
 use Rattle.code_layout.specs.Readings.{expr_read, letters_in, target_in, home_in}
 
@@ -128,7 +128,7 @@ module _ (r : Reading) where
   home_read e = ap (atom_name r) (target_read e) ∙ home_at (out-Expr e)
 
   -- what stands before the colon of a call
-  pub home_first : (home : List Expr) (e : Expr) → Some e ≡ slice_get home 0 → module_of r (map (expr_read r) home) ≡ Some (home_in r (out-Expr e))
+  pub home_first : (home : List Expr) (e : Expr) → Some e ≡ slice_get home 0 → called_module r (map (expr_read r) home) ≡ Some (home_in r (out-Expr e))
   home_first [] e h = cc
   home_first (x ∷ es) e h =
       let k : x ≡ e = cc in

@@ -6,7 +6,7 @@ ghost use Rattle.erl_syntax.specs.BuiltIns.{is_bare, home_of};
 ghost use Rattle.erl_syntax.specs.declared.built_in.TheConstants.{BUILT_INS};
 ghost use Rattle.erl_syntax.specs.declared.expr.Expr.{out-Expr};
 ghost use Rattle.term_value.specs.Calls.{is_named, called, form_or_call, form_of as built_in_form};
-ghost use Rattle.term_value.specs.Read.{module_of};
+ghost use Rattle.term_value.specs.Read.{called_module};
 ghost use Rattle.code_tree.specs.Reading.{form_of};
 ghost use Rattle.code_layout.specs.Layout.{reading_of};
 ghost use Rattle.code_layout.specs.Readings.{expr_read, home_in};
@@ -79,7 +79,7 @@ impl<'a> Laying<'a> {
 
     /// The built-in function that is called with this before the colon, or with nothing before it.
     fn built_in(&self, home: &[Expr], name: u32, arity: usize) -> Option<BuiltIn>
-        ensures { let r = reading_of self.now in (place : ℕ) → form_or_call result place ≡ called (module_of r (map (expr_read r) home.now)) (r.names name) arity place }
+        ensures { let r = reading_of self.now in (place : ℕ) → form_or_call result place ≡ called (called_module r (map (expr_read r) home.now)) (r.names name) arity place }
     {
         let name = self.characters(name);
         match home.first() {
@@ -90,7 +90,7 @@ impl<'a> Laying<'a> {
 
     /// What becomes of the arguments of a call.
     pub fn called(&self, home: &[Expr], name: u32, arity: usize) -> Result<Form, AllocError>
-        ensures { let r = reading_of self.now in IfOk result (λ form. form_of form ≡ called (module_of r (map (expr_read r) home.now)) (r.names name) arity (r.place name arity)) }
+        ensures { let r = reading_of self.now in IfOk result (λ form. form_of form ≡ called (called_module r (map (expr_read r) home.now)) (r.names name) arity (r.place name arity)) }
     {
         match self.built_in(home, name, arity) {
             Some(built_in) => Ok(built_in_form(built_in)),

@@ -4,7 +4,7 @@ ghost use Rattle.std.specs.Prelude.{◌≡◌, map, IfOk};
 ghost use Rattle.term_value.specs.ReadTrees as text;
 ghost use Rattle.term_value.specs.ReadTrees.{reading, name_of};
 ghost use Rattle.erl_syntax.specs.Checking.{number_at};
-ghost use Rattle.code_tree.specs.Reading.{module_of, function_of};
+ghost use Rattle.code_tree.specs.Reading.{module_meant, function_of};
 
 use crate::clauses::function_clauses;
 use crate::laying::Laying;
@@ -81,7 +81,7 @@ fn functions(
 /// Memory ran out. A tree that no text spells, or that was not checked, may hold a number or a string past the bounds of code, or a
 /// segment without a type, which is answered so too.
 pub fn lay_out(alloc: Global, tree: &Module, vars: &[Listed<VarUse>]) -> Result<Code, AllocError>
-    ensures { IfOk result (λ code. module_of code ≡ text.module_of vars.now tree.now) }
+    ensures { IfOk result (λ code. module_meant code ≡ text.module_of vars.now tree.now) }
 {
     let names = Names::of(alloc, tree)?;
     let functions = functions(alloc, &names, vars)?;

@@ -11,33 +11,33 @@ use Rattle.term_value.specs.Encode.{Filled, filled_by, filled_with}
 use Rattle.term_value.specs.declared.term.Term.{Term}
 
 -- the segments so far, and then these
-abbrev pub joined : List (Part (List Bool)) → Option (List Filled) → Option (List Filled)
-joined ps fs = option_map (λ later. parts_filled itself ps ++ later) fs
+abbrev pub filled_on : List (Part (List Bool)) → Option (List Filled) → Option (List Filled)
+filled_on ps fs = option_map (λ later. parts_filled itself ps ++ later) fs
 
-joined_more : (ps : List (Part (List Bool))) (p : Part (List Bool)) (fs : Option (List Filled)) → joined (ps ++ p ∷ []) fs ≡ joined ps (option_map (λ later. part_filled itself p ∷ later) fs)
+joined_more : (ps : List (Part (List Bool))) (p : Part (List Bool)) (fs : Option (List Filled)) → filled_on (ps ++ p ∷ []) fs ≡ filled_on ps (option_map (λ later. part_filled itself p ∷ later) fs)
 joined_more ps p None = refl
 joined_more ps p (Some fs) = ap (λ zs. Some (zs ++ fs)) (map-append (part_filled itself) ps (p ∷ [])) ∙ ap Some (append_assoc (parts_filled itself ps) (part_filled itself p ∷ []) fs)
 
-module _ (ps : List (Part (List Bool))) (waiting : List Typed) (left : List (Term (List Bool))) (due : Option (List Filled)) (inv : joined ps (filled_with waiting (meanings itself (row left))) ≡ due) where
+module _ (ps : List (Part (List Bool))) (waiting : List Typed) (left : List (Term (List Bool))) (due : Option (List Filled)) (inv : filled_on ps (filled_with waiting (meanings itself (row left))) ≡ due) where
   module _ (typed : Typed) (types : List Typed) (here : waiting ≡ typed ∷ types) where
     -- no value is left
     pub none_left : left ≡ [] → due ≡ None
-    none_left e = sym inv ∙ ap (λ ys. joined ps (filled_with ys (meanings itself (row left)))) here ∙ ap (λ ts. joined ps (filled_with (typed ∷ types) (meanings itself (row ts)))) e
+    none_left e = sym inv ∙ ap (λ ys. filled_on ps (filled_with ys (meanings itself (row left)))) here ∙ ap (λ ts. filled_on ps (filled_with (typed ∷ types) (meanings itself (row ts)))) e
 
-    next : (t : Term (List Bool)) (rest : List (Term (List Bool))) → left ≡ t ∷ rest → due ≡ joined ps (filled_by typed.size typed (value_of itself t) (meanings itself (row rest)) (filled_with types))
-    next t rest e = sym inv ∙ ap (λ ys. joined ps (filled_with ys (meanings itself (row left)))) here ∙ ap (λ ts. joined ps (filled_with (typed ∷ types) (meanings itself (row ts)))) e
+    next : (t : Term (List Bool)) (rest : List (Term (List Bool))) → left ≡ t ∷ rest → due ≡ filled_on ps (filled_by typed.size typed (value_of itself t) (meanings itself (row rest)) (filled_with types))
+    next t rest e = sym inv ∙ ap (λ ys. filled_on ps (filled_with ys (meanings itself (row left)))) here ∙ ap (λ ts. filled_on ps (filled_with (typed ∷ types) (meanings itself (row ts)))) e
 
     -- its size has no value
     pub none_for_size : (t : Term (List Bool)) (rest : List (Term (List Bool))) → left ≡ t ∷ rest → filled_by typed.size typed (value_of itself t) (meanings itself (row rest)) (filled_with types) ≡ None → due ≡ None
-    none_for_size t rest e h = next t rest e ∙ ap (joined ps) h
+    none_for_size t rest e h = next t rest e ∙ ap (filled_on ps) h
 
     pub filled_more : (t : Term (List Bool)) (rest : List (Term (List Bool))) → left ≡ t ∷ rest → (p : Part (List Bool)) (behind : List (Term (List Bool)))
         → filled_by typed.size typed (value_of itself t) (meanings itself (row rest)) (filled_with types) ≡ option_map (λ later. part_filled itself p ∷ later) (filled_with types (meanings itself (row behind)))
-        → joined (ps ++ p ∷ []) (filled_with types (meanings itself (row behind))) ≡ due
-    filled_more t rest e p behind h = joined_more ps p (filled_with types (meanings itself (row behind))) ∙ ap (joined ps) (sym h) ∙ sym (next t rest e)
+        → filled_on (ps ++ p ∷ []) (filled_with types (meanings itself (row behind))) ≡ due
+    filled_more t rest e p behind h = joined_more ps p (filled_with types (meanings itself (row behind))) ∙ ap (filled_on ps) (sym h) ∙ sym (next t rest e)
 
   pub all_filled : waiting ≡ [] → left ≡ [] → due ≡ Some (parts_filled itself ps)
-  all_filled w e = sym inv ∙ ap (λ ys. joined ps (filled_with ys (meanings itself (row left)))) w ∙ ap (λ ts. joined ps (filled_with [] (meanings itself (row ts)))) e ∙ ap Some (append-nil (parts_filled itself ps))
+  all_filled w e = sym inv ∙ ap (λ ys. filled_on ps (filled_with ys (meanings itself (row left)))) w ∙ ap (λ ts. filled_on ps (filled_with [] (meanings itself (row ts)))) e ∙ ap Some (append-nil (parts_filled itself ps))
 
   pub too_many : waiting ≡ [] → (t : Term (List Bool)) (rest : List (Term (List Bool))) → left ≡ t ∷ rest → due ≡ None
-  too_many w t rest e = sym inv ∙ ap (λ ys. joined ps (filled_with ys (meanings itself (row left)))) w ∙ ap (λ ts. joined ps (filled_with [] (meanings itself (row ts)))) e
+  too_many w t rest e = sym inv ∙ ap (λ ys. filled_on ps (filled_with ys (meanings itself (row left)))) w ∙ ap (λ ts. filled_on ps (filled_with [] (meanings itself (row ts)))) e

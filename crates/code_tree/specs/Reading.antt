@@ -197,5 +197,5 @@ qualifiers_of qs row = qualifiers (map qualifier_of qs) (tree_of row)
 abbrev pub function_of : Function → t.Function
 function_of f = record { name = f.name; arity = f.arity; exported = f.exported; clauses = clauses_of f.clauses }
 
-abbrev pub module_of : Code → t.Module
-module_of code = record { atoms = code.atoms; name = code.name; functions = map function_of code.functions }
+abbrev pub module_meant : Code → t.Module
+module_meant code = record { atoms = code.atoms; name = code.name; functions = map function_of code.functions }

@@ -23,7 +23,7 @@ use Rattle.process_acts.specs.declared.asking.Asking as asking
 use Rattle.process_acts.specs.declared.asking.Asking.TheVariants as a
 use Rattle.copy_machine.specs.Asks.{if_named, message_to, shown_by, called_by, is_start, is_more, ended_by, arguments_of}
 use Rattle.copy_machine.specs.Following.{StandsAt, Plays, ending_of}
-use Rattle.copy_machine.specs.Entering.{Setting, IsIn, Acts, Settles, Answers, pid_of}
+use Rattle.copy_machine.specs.Entering.{Conditions, IsIn, Acts, Settles, Answers, pid_of}
 use Rattle.copy_machine.specs.declared.act.Act.TheVariants.{Refused, Goes, Ends}
 use Rattle.copy_machine.specs.declared.act.Effect.TheVariants as f
 use Rattle.copy_machine.specs.declared.actor.Actor.{Actor}
@@ -207,7 +207,7 @@ module _ (code : Module) (k : Local) where
 
 -- ---- A machine in which the entry's process stands so
 
-at_ask : (s : Setting) (entry : Entry) (l : Local) (vs : List Value) (machine : m.Machine) → IsIn s entry (m.Running l vs) machine → m.ask_at machine (pid_of entry) ≡ Some (ask_of s.code l)
+at_ask : (s : Conditions) (entry : Entry) (l : Local) (vs : List Value) (machine : m.Machine) → IsIn s entry (m.Running l vs) machine → m.ask_at machine (pid_of entry) ≡ Some (ask_of s.code l)
 at_ask s entry l vs machine i = ap (m.ask_of_process machine.code) i.stands ∙ ap (λ (x : Module). Some (ask_of x l)) i.code
 
 fits_same : (n : ℕ) (x : m.Machine) → m.if_fits (nat_eq n n) x ≡ Some x
@@ -260,7 +260,7 @@ module _ {P : Type 0} (code_of : P → Module) (local_of : P → Local) (waits_o
 
   -- ---- Messages
 
-  pub send_none : (s : Setting) (pid to : ℕ) (old new : Actor P) → Settles code_of local_of waits_of old new → message_to to new.ask ≡ None → Acts code_of local_of waits_of s (Sent pid to) old Refused new
+  pub send_none : (s : Conditions) (pid to : ℕ) (old new : Actor P) → Settles code_of local_of waits_of old new → message_to to new.ask ≡ None → Acts code_of local_of waits_of s (Sent pid to) old Refused new
   send_none s pid to old new g e (m.Running l vs) h =
       let k = kept s.code l vs old new h g in
       let t = tells s.code l (local_of new.process) k.runs g.ask (asks_in s.code l vs old new h g) in
@@ -269,7 +269,7 @@ module _ {P : Type 0} (code_of : P → Module) (local_of : P → Local) (waits_o
   send_none s pid to old new g e (m.Over how) h = absurd h
   send_none s pid to old new g e (m.Left how) h = absurd h
 
-  pub send_some : (s : Setting) (pid to : ℕ) (v : Seen (List Bool)) (old mid new : Actor P) → Settles code_of local_of waits_of old mid → message_to to mid.ask ≡ Some v → Answers code_of local_of (value v) mid new
+  pub send_some : (s : Conditions) (pid to : ℕ) (v : Seen (List Bool)) (old mid new : Actor P) → Settles code_of local_of waits_of old mid → message_to to mid.ask ≡ Some v → Answers code_of local_of (value v) mid new
       → Acts code_of local_of waits_of s (Sent pid to) old (Goes (f.Delivers to v)) new
   send_some s pid to v old mid new g e w (m.Running l vs) h =
       let k = kept s.code l vs old mid h g in
@@ -293,7 +293,7 @@ module _ {P : Type 0} (code_of : P → Module) (local_of : P → Local) (waits_o
 
   -- ---- Displays
 
-  pub show_none : (s : Setting) (pid : ℕ) (old new : Actor P) → Settles code_of local_of waits_of old new → shown_by new.ask ≡ None → Acts code_of local_of waits_of s (Shown pid) old Refused new
+  pub show_none : (s : Conditions) (pid : ℕ) (old new : Actor P) → Settles code_of local_of waits_of old new → shown_by new.ask ≡ None → Acts code_of local_of waits_of s (Shown pid) old Refused new
   show_none s pid old new g e (m.Running l vs) h =
       let k = kept s.code l vs old new h g in
       let t = tells s.code l (local_of new.process) k.runs g.ask (asks_in s.code l vs old new h g) in
@@ -302,7 +302,7 @@ module _ {P : Type 0} (code_of : P → Module) (local_of : P → Local) (waits_o
   show_none s pid old new g e (m.Over how) h = absurd h
   show_none s pid old new g e (m.Left how) h = absurd h
 
-  pub show_some : (s : Setting) (pid : ℕ) (v : Seen (List Bool)) (answer : Value) (old mid new : Actor P) → Settles code_of local_of waits_of old mid → shown_by mid.ask ≡ Some v → answer ≡ truth true → Answers code_of local_of answer mid new
+  pub show_some : (s : Conditions) (pid : ℕ) (v : Seen (List Bool)) (answer : Value) (old mid new : Actor P) → Settles code_of local_of waits_of old mid → shown_by mid.ask ≡ Some v → answer ≡ truth true → Answers code_of local_of answer mid new
       → Acts code_of local_of waits_of s (Shown pid) old (Goes (f.Shows v)) new
   show_some s pid v answer old mid new g e is w (m.Running l vs) h =
       let k = kept s.code l vs old mid h g in
@@ -326,7 +326,7 @@ module _ {P : Type 0} (code_of : P → Module) (local_of : P → Local) (waits_o
 
   -- ---- Ends
 
-  pub end_none : (s : Setting) (code : Module) (pid : ℕ) (old new : Actor P) → s.code ≡ code → Settles code_of local_of waits_of old new → ended_by code new.ask ≡ None → Acts code_of local_of waits_of s (Ended pid) old Refused new
+  pub end_none : (s : Conditions) (code : Module) (pid : ℕ) (old new : Actor P) → s.code ≡ code → Settles code_of local_of waits_of old new → ended_by code new.ask ≡ None → Acts code_of local_of waits_of s (Ended pid) old Refused new
   end_none s code pid old new same g e (m.Running l vs) h =
       let k = kept s.code l vs old new h g in
       let t = tells s.code l (local_of new.process) k.runs g.ask (asks_in s.code l vs old new h g) in
@@ -335,7 +335,7 @@ module _ {P : Type 0} (code_of : P → Module) (local_of : P → Local) (waits_o
   end_none s code pid old new same g e (m.Over how) h = absurd h
   end_none s code pid old new same g e (m.Left how) h = absurd h
 
-  pub end_some : (s : Setting) (code : Module) (pid : ℕ) (ending : Ending) (old new : Actor P) → s.code ≡ code → Settles code_of local_of waits_of old new → ended_by code new.ask ≡ Some ending
+  pub end_some : (s : Conditions) (code : Module) (pid : ℕ) (ending : Ending) (old new : Actor P) → s.code ≡ code → Settles code_of local_of waits_of old new → ended_by code new.ask ≡ Some ending
       → Acts code_of local_of waits_of s (Ended pid) old (Ends ending) new
   end_some s code pid ending old new same g e (m.Running l vs) h =
       let k = kept s.code l vs old new h g in
@@ -348,7 +348,7 @@ module _ {P : Type 0} (code_of : P → Module) (local_of : P → Local) (waits_o
 
   -- ---- Messages that are seen
 
-  pub see_none : (s : Setting) (pid count : ℕ) (old new : Actor P) → Settles code_of local_of waits_of old new → is_more new.ask ≡ false → Acts code_of local_of waits_of s (Saw pid count) old Refused new
+  pub see_none : (s : Conditions) (pid count : ℕ) (old new : Actor P) → Settles code_of local_of waits_of old new → is_more new.ask ≡ false → Acts code_of local_of waits_of s (Saw pid count) old Refused new
   see_none s pid count old new g e (m.Running l vs) h =
       let k = kept s.code l vs old new h g in
       let t = tells s.code l (local_of new.process) k.runs g.ask (asks_in s.code l vs old new h g) in
@@ -357,7 +357,7 @@ module _ {P : Type 0} (code_of : P → Module) (local_of : P → Local) (waits_o
   see_none s pid count old new g e (m.Over how) h = absurd h
   see_none s pid count old new g e (m.Left how) h = absurd h
 
-  pub see_other : (s : Setting) (pid count : ℕ) (old new : Actor P) → Settles code_of local_of waits_of old new → is_more new.ask ≡ true → (nat_eq count (length new.unseen.items) && nat_le 1 count) ≡ false
+  pub see_other : (s : Conditions) (pid count : ℕ) (old new : Actor P) → Settles code_of local_of waits_of old new → is_more new.ask ≡ true → (nat_eq count (length new.unseen.items) && nat_le 1 count) ≡ false
       → Acts code_of local_of waits_of s (Saw pid count) old Refused new
   see_other s pid count old new g e fails (m.Running l vs) h =
       let k = kept s.code l vs old new h g in
@@ -373,7 +373,7 @@ module _ {P : Type 0} (code_of : P → Module) (local_of : P → Local) (waits_o
   see_other s pid count old new g e fails (m.Over how) h = absurd h
   see_other s pid count old new g e fails (m.Left how) h = absurd h
 
-  pub see_some : (s : Setting) (pid count : ℕ) (messages : List (Seen (List Bool))) (old mid new : Actor P) → Settles code_of local_of waits_of old mid → is_more mid.ask ≡ true → (nat_eq count (length mid.unseen.items) && nat_le 1 count) ≡ true
+  pub see_some : (s : Conditions) (pid count : ℕ) (messages : List (Seen (List Bool))) (old mid new : Actor P) → Settles code_of local_of waits_of old mid → is_more mid.ask ≡ true → (nat_eq count (length mid.unseen.items) && nat_le 1 count) ≡ true
       → messages ≡ mid.unseen.items → code_of new.process ≡ code_of mid.process → acts.Saw (code_of mid.process) (local_of mid.process) (map value messages) (local_of new.process) → new.unseen.items ≡ [] → new.ask ≡ None
       → Acts code_of local_of waits_of s (Saw pid count) old (Goes f.Nothing) new
   see_some s pid count messages old mid new g e holds are code saw none_left no_ask (m.Running l vs) h =
@@ -406,7 +406,7 @@ module _ {P : Type 0} (code_of : P → Module) (local_of : P → Local) (waits_o
 
   -- ---- Where no more processes may be started
 
-  pub fill_none : (s : Setting) (pid : ℕ) (old new : Actor P) → Settles code_of local_of waits_of old new → is_start new.ask ≡ false → Acts code_of local_of waits_of s (Full pid) old Refused new
+  pub fill_none : (s : Conditions) (pid : ℕ) (old new : Actor P) → Settles code_of local_of waits_of old new → is_start new.ask ≡ false → Acts code_of local_of waits_of s (Full pid) old Refused new
   fill_none s pid old new g e (m.Running l vs) h =
       let k = kept s.code l vs old new h g in
       let t = tells s.code l (local_of new.process) k.runs g.ask (asks_in s.code l vs old new h g) in
@@ -415,7 +415,7 @@ module _ {P : Type 0} (code_of : P → Module) (local_of : P → Local) (waits_o
   fill_none s pid old new g e (m.Over how) h = absurd h
   fill_none s pid old new g e (m.Left how) h = absurd h
 
-  pub fill_early : (s : Setting) (pid : ℕ) (old new : Actor P) → Settles code_of local_of waits_of old new → is_start new.ask ≡ true → nat_eq s.started m.process_bound ≡ false → Acts code_of local_of waits_of s (Full pid) old Refused new
+  pub fill_early : (s : Conditions) (pid : ℕ) (old new : Actor P) → Settles code_of local_of waits_of old new → is_start new.ask ≡ true → nat_eq s.started m.process_bound ≡ false → Acts code_of local_of waits_of s (Full pid) old Refused new
   fill_early s pid old new g e fails (m.Running l vs) h =
       let k = kept s.code l vs old new h g in
       let at : is_start (Some g.ask) ≡ true = ap is_start (sym g.is) ∙ e in
@@ -425,7 +425,7 @@ module _ {P : Type 0} (code_of : P → Module) (local_of : P → Local) (waits_o
   fill_early s pid old new g e fails (m.Over how) h = absurd h
   fill_early s pid old new g e fails (m.Left how) h = absurd h
 
-  pub fill_some : (s : Setting) (pid : ℕ) (old mid new : Actor P) → Settles code_of local_of waits_of old mid → is_start mid.ask ≡ true → nat_eq s.started m.process_bound ≡ true
+  pub fill_some : (s : Conditions) (pid : ℕ) (old mid new : Actor P) → Settles code_of local_of waits_of old mid → is_start mid.ask ≡ true → nat_eq s.started m.process_bound ≡ true
       → code_of new.process ≡ code_of mid.process → acts.Filled (code_of mid.process) (local_of mid.process) (local_of new.process) → new.unseen.items ≡ mid.unseen.items → new.ask ≡ None
       → Acts code_of local_of waits_of s (Full pid) old (Goes f.Nothing) new
   fill_some s pid old mid new g e full code filled same no_ask (m.Running l vs) h =
@@ -458,7 +458,7 @@ module _ {P : Type 0} (code_of : P → Module) (local_of : P → Local) (waits_o
 
   -- ---- Starts
 
-  pub start_none : (s : Setting) (pid child : ℕ) (old new : Actor P) → Settles code_of local_of waits_of old new → called_by new.ask ≡ None → Acts code_of local_of waits_of s (Started pid child) old Refused new
+  pub start_none : (s : Conditions) (pid child : ℕ) (old new : Actor P) → Settles code_of local_of waits_of old new → called_by new.ask ≡ None → Acts code_of local_of waits_of s (Started pid child) old Refused new
   start_none s pid child old new g e (m.Running l vs) h =
       let k = kept s.code l vs old new h g in
       let t = tells s.code l (local_of new.process) k.runs g.ask (asks_in s.code l vs old new h g) in
@@ -467,7 +467,7 @@ module _ {P : Type 0} (code_of : P → Module) (local_of : P → Local) (waits_o
   start_none s pid child old new g e (m.Over how) h = absurd h
   start_none s pid child old new g e (m.Left how) h = absurd h
 
-  pub start_far : (s : Setting) (pid child : ℕ) (old new : Actor P) → Settles code_of local_of waits_of old new → (nat_eq child (s.started + 1) && nat_le child m.process_bound) ≡ false
+  pub start_far : (s : Conditions) (pid child : ℕ) (old new : Actor P) → Settles code_of local_of waits_of old new → (nat_eq child (s.started + 1) && nat_le child m.process_bound) ≡ false
       → Acts code_of local_of waits_of s (Started pid child) old Refused new
   start_far s pid child old new g fails (m.Running l vs) h =
       let k = kept s.code l vs old new h g in
@@ -479,7 +479,7 @@ module _ {P : Type 0} (code_of : P → Module) (local_of : P → Local) (waits_o
   start_far s pid child old new g fails (m.Over how) h = absurd h
   start_far s pid child old new g fails (m.Left how) h = absurd h
 
-  pub start_some : (s : Setting) (pid child : ℕ) (call : Call) (first : First) (answer : Value) (process : P) (old mid new : Actor P) → Settles code_of local_of waits_of old mid → called_by mid.ask ≡ Some call
+  pub start_some : (s : Conditions) (pid child : ℕ) (call : Call) (first : First) (answer : Value) (process : P) (old mid new : Actor P) → Settles code_of local_of waits_of old mid → called_by mid.ask ≡ Some call
       → (nat_eq child (s.started + 1) && nat_le child m.process_bound) ≡ true → Begins s.code s.reductions child call first → IsFirst first (local_of process) → code_of process ≡ code_of mid.process → answer ≡ VPid child → Answers code_of local_of answer mid new
       → Acts code_of local_of waits_of s (Started pid child) old (Goes (f.Starts process)) new
   start_some s pid child call first answer process old mid new g e near begins is_first code is w (m.Running l vs) h =

@@ -12,11 +12,11 @@ use Rattle.term_value.specs.Local.{Local}
 use Rattle.term_value.specs.Machine as m
 use Rattle.term_value.specs.declared.entry.Entry.{Entry}
 use Rattle.code_tree.specs.PlainTerms.{value}
-use Rattle.code_tree.specs.Reading.{module_of}
+use Rattle.code_tree.specs.Reading.{module_meant}
 use Rattle.process_acts.specs.Acts.{Runs}
 use Rattle.process_acts.specs.declared.asking.Asking.{Asking}
 use Rattle.copy_machine.specs.Following.{StandsAt, IsRowOf, IsSound, AreRows, Follows, IsFollower}
-use Rattle.copy_machine.specs.Entering.{Setting, setting, IsTimely, IsEffect, AllRest, Enters, RestsAt, rests_in, pid_of, took}
+use Rattle.copy_machine.specs.Entering.{Conditions, conditions, IsTimely, IsEffect, AllRest, Enters, RestsAt, rests_in, pid_of, took}
 use Rattle.copy_machine.specs.declared.act.Effect.{Effect}
 use Rattle.copy_machine.specs.declared.machine.Machine.{Machine}
 use Rattle.copy_machine.specs.declared.row.Row.{Row}
@@ -54,7 +54,7 @@ module _ {P : Type 0} (code_of : P → Module) (local_of : P → Local) (waits_o
   pub with_rows : (machine : m.Machine) (old new : Machine P) → Follows code_of local_of waits_of machine old → new.world ≡ old.world → new.shown.items ≡ old.shown.items
       → (ps : List m.Process) → AreRows code_of local_of waits_of machine.code ps new.rows.items → Follows code_of local_of waits_of (record machine { processes = ps }) new
   with_rows machine old new h world shown ps rows = record {
-    code = h.code ∙ ap (λ w. module_of w.code.now) (sym world);
+    code = h.code ∙ ap (λ w. module_meant w.code.now) (sym world);
     reductions = h.reductions ∙ ap (λ w. w.reductions) (sym world);
     rows = rows;
     shown = shown ∙ h.shown;
@@ -78,12 +78,12 @@ module _ {P : Type 0} (code_of : P → Module) (local_of : P → Local) (waits_o
   pub rests_nowhere : (index : ℕ) (old : Machine P) → slice_get old.rows.items index ≡ None → (machine : m.Machine) → Follows code_of local_of waits_of machine old → RestsAt code_of local_of waits_of machine index true old
   rests_nowhere index old e machine h = (h, sym (ap (rests_in machine.code) (no_row code_of local_of waits_of machine.code machine.processes old.rows.items index h.rows e)))
 
-  alike : (machine : m.Machine) (old : Machine P) → Follows code_of local_of waits_of machine old → record { code = machine.code; reductions = machine.reductions; started = length machine.processes } ≡ setting old.world.code.now old.world.reductions (length old.rows.items)
+  alike : (machine : m.Machine) (old : Machine P) → Follows code_of local_of waits_of machine old → record { code = machine.code; reductions = machine.reductions; started = length machine.processes } ≡ conditions old.world.code.now old.world.reductions (length old.rows.items)
   alike machine old h =
-      let set : Module → ℕ → ℕ → Setting = λ code reductions started. record { code = code; reductions = reductions; started = started } in
+      let set : Module → ℕ → ℕ → Conditions = λ code reductions started. record { code = code; reductions = reductions; started = started } in
       ap (λ (x : Module). set x machine.reductions (length machine.processes)) h.code
-      ∙ ap (λ (x : ℕ). set (module_of old.world.code.now) x (length machine.processes)) h.reductions
-      ∙ ap (set (module_of old.world.code.now) old.world.reductions) (same_length code_of local_of waits_of machine.code machine.processes old.rows.items h.rows)
+      ∙ ap (λ (x : ℕ). set (module_meant old.world.code.now) x (length machine.processes)) h.reductions
+      ∙ ap (set (module_meant old.world.code.now) old.world.reductions) (same_length code_of local_of waits_of machine.code machine.processes old.rows.items h.rows)
 
   -- ---- An entry of a process that is not there
 
@@ -97,13 +97,13 @@ module _ {P : Type 0} (code_of : P → Module) (local_of : P → Local) (waits_o
   -- ---- An entry of a process
 
   pub enters_row : (entry : Entry) (started i : ℕ) (row now : Row P) (effect : Option (Effect P)) (old new : Machine P) → started ≡ length old.rows.items → pid_of entry ≡ suc i → slice_get old.rows.items i ≡ Some row
-      → ((s : Setting) → s ≡ setting old.world.code.now old.world.reductions started → (p : m.Process) → IsRowOf code_of local_of waits_of s.code p row → IsEffect code_of local_of waits_of s entry p effect now)
+      → ((s : Conditions) → s ≡ conditions old.world.code.now old.world.reductions started → (p : m.Process) → IsRowOf code_of local_of waits_of s.code p row → IsEffect code_of local_of waits_of s entry p effect now)
       → new.world ≡ old.world → new.shown.items ≡ old.shown.items → new.rows.items ≡ slice_set old.rows.items i now
       → (machine : m.Machine) → Follows code_of local_of waits_of machine old → IsTimely entry machine → Enters code_of local_of waits_of machine entry effect new
   enters_row entry started i row now None old new many e at each world shown is machine h timely =
-      let s : Setting = record { code = machine.code; reductions = machine.reductions; started = length machine.processes } in
+      let s : Conditions = record { code = machine.code; reductions = machine.reductions; started = length machine.processes } in
       let w = row_at code_of local_of waits_of machine.code machine.processes old.rows.items i row h.rows at in
-      let same : s ≡ setting old.world.code.now old.world.reductions started = alike machine old h ∙ ap (setting old.world.code.now old.world.reductions) (sym many) in
+      let same : s ≡ conditions old.world.code.now old.world.reductions started = alike machine old h ∙ ap (conditions old.world.code.now old.world.reductions) (sym many) in
       let d = each s same w.0 w.2 in
       let stands : m.process_at machine (pid_of entry) ≡ Some w.0 = ap (m.process_at machine) e ∙ w.1 in (
         d.1 machine (record { code = refl; reductions = refl; started = refl; stands = stands; timely = timely }),
@@ -111,9 +111,9 @@ module _ {P : Type 0} (code_of : P → Module) (local_of : P → Local) (waits_o
             (subst (λ (xs : List (Row P)). AreRows code_of local_of waits_of machine.code machine.processes xs) (sym is) (kept_row code_of local_of waits_of machine.code machine.processes old.rows.items i w.0 now h.rows w.1 d.0)),
       )
   enters_row entry started i row now (Some effect) old new many e at each world shown is machine h timely =
-      let s : Setting = record { code = machine.code; reductions = machine.reductions; started = length machine.processes } in
+      let s : Conditions = record { code = machine.code; reductions = machine.reductions; started = length machine.processes } in
       let w = row_at code_of local_of waits_of machine.code machine.processes old.rows.items i row h.rows at in
-      let same : s ≡ setting old.world.code.now old.world.reductions started = alike machine old h ∙ ap (setting old.world.code.now old.world.reductions) (sym many) in
+      let same : s ≡ conditions old.world.code.now old.world.reductions started = alike machine old h ∙ ap (conditions old.world.code.now old.world.reductions) (sym many) in
       let d = each s same w.0 w.2 in
       let stands : m.process_at machine (pid_of entry) ≡ Some w.0 = ap (m.process_at machine) e ∙ w.1 in (
         at_place machine i d.0,
@@ -164,10 +164,10 @@ module _ {P : Type 0} (code_of : P → Module) (local_of : P → Local) (waits_o
     stands = subst (λ (o : Option Asking). StandsAt code_of local_of waits_of actor.process o) (sym ask) tt;
   }
 
-  pub begins : (process : P) (actor : Actor P) (rows : List (Row P)) (c : Machine P) → code_of process ≡ module_of c.world.code.now → IsRowOf code_of local_of waits_of (code_of process) (m.Running (local_of process) []) (r.Running actor)
-      → rows ≡ [] → c.rows.items ≡ rows ++ r.Running actor ∷ [] → c.shown.items ≡ [] → Follows code_of local_of waits_of (m.beginning (module_of c.world.code.now) c.world.reductions (local_of process)) c
+  pub begins : (process : P) (actor : Actor P) (rows : List (Row P)) (c : Machine P) → code_of process ≡ module_meant c.world.code.now → IsRowOf code_of local_of waits_of (code_of process) (m.Running (local_of process) []) (r.Running actor)
+      → rows ≡ [] → c.rows.items ≡ rows ++ r.Running actor ∷ [] → c.shown.items ≡ [] → Follows code_of local_of waits_of (m.beginning (module_meant c.world.code.now) c.world.reductions (local_of process)) c
   begins process actor rows c same is no_rows more no_shown =
-      let own = module_of c.world.code.now in
+      let own = module_meant c.world.code.now in
       let all : c.rows.items ≡ r.Running actor ∷ [] = more ∙ ap (λ (xs : List (Row P)). xs ++ r.Running actor ∷ []) no_rows in
       let one : AreRows code_of local_of waits_of own (m.Running (local_of process) [] ∷ []) (r.Running actor ∷ []) = (subst (λ (x : Module). IsRowOf code_of local_of waits_of x (m.Running (local_of process) []) (r.Running actor)) same is, tt) in
       record {
@@ -177,10 +177,10 @@ module _ {P : Type 0} (code_of : P → Module) (local_of : P → Local) (waits_o
         shown = no_shown;
       }
 
-  pub shows_text : (shown : Value) (line : List ℕ) (old new : Machine P) → line ≡ text (name_in (module_of old.world.code.now)) shown → new.world ≡ old.world → new.rows.items ≡ old.rows.items → new.shown.items ≡ old.shown.items ++ line ∷ []
+  pub shows_text : (shown : Value) (line : List ℕ) (old new : Machine P) → line ≡ text (name_in (module_meant old.world.code.now)) shown → new.world ≡ old.world → new.rows.items ≡ old.rows.items → new.shown.items ≡ old.shown.items ++ line ∷ []
       → (machine : m.Machine) → Follows code_of local_of waits_of machine old → Follows code_of local_of waits_of (m.with_shown machine shown) new
   shows_text shown line old new is world rows more machine h = record {
-    code = h.code ∙ ap (λ w. module_of w.code.now) (sym world);
+    code = h.code ∙ ap (λ w. module_meant w.code.now) (sym world);
     reductions = h.reductions ∙ ap (λ w. w.reductions) (sym world);
     rows = subst (λ (xs : List (Row P)). AreRows code_of local_of waits_of machine.code machine.processes xs) (sym rows) h.rows;
     shown = more

@@ -21,14 +21,14 @@ use Rattle.copy_machine.specs.Replaying.{LeadsOn, StopsAt, EndsEarly, Replays, e
 
 -- ---- Orders
 
-joined : (o : Option m.Machine) (es fs : List Entry) → ((n : m.Machine) → m.all_applied n (es ++ fs) ≡ option_and_then (λ k. m.all_applied k fs) (m.all_applied n es))
+applied_joined : (o : Option m.Machine) (es fs : List Entry) → ((n : m.Machine) → m.all_applied n (es ++ fs) ≡ option_and_then (λ k. m.all_applied k fs) (m.all_applied n es))
     → option_and_then (λ n. m.all_applied n (es ++ fs)) o ≡ option_and_then (λ k. m.all_applied k fs) (option_and_then (λ n. m.all_applied n es) o)
-joined (Some n) es fs each = each n
-joined None es fs each = refl
+applied_joined (Some n) es fs each = each n
+applied_joined None es fs each = refl
 
 applied_on : (start : m.Machine) (es fs : List Entry) → m.all_applied start (es ++ fs) ≡ option_and_then (λ k. m.all_applied k fs) (m.all_applied start es)
 applied_on start [] fs = refl
-applied_on start (e ∷ es) fs = joined (m.applied start e) es fs (λ n. applied_on n es fs)
+applied_on start (e ∷ es) fs = applied_joined (m.applied start e) es fs (λ n. applied_on n es fs)
 
 pub leads_more : (start state next : m.Machine) (es : List Entry) (e : Entry) → m.Leads start es state → m.applied state e ≡ Some next → m.Leads start (es ++ e ∷ []) next
 leads_more start state next es e h a =

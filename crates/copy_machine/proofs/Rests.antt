@@ -11,7 +11,7 @@ use Rattle.code_tree.specs.PlainTerms.{value}
 use Rattle.process_acts.specs.declared.asking.Asking as asking
 use Rattle.process_acts.specs.declared.asking.Asking.TheVariants as a
 use Rattle.copy_machine.specs.Asks.{is_more}
-use Rattle.copy_machine.specs.Entering.{Setting, Acts, Settles, Rests}
+use Rattle.copy_machine.specs.Entering.{Conditions, Acts, Settles, Rests}
 use Rattle.copy_machine.specs.declared.act.Act.TheVariants.{Refused, Ends}
 use Rattle.copy_machine.specs.declared.actor.Actor.{Actor}
 use Rattle.copy_machine.specs.declared.ending.Ending.TheVariants as e
@@ -37,12 +37,12 @@ with_some code l [] e = absurd (omega arith)
 with_some code l (u ∷ us) e = refl
 
 module _ {P : Type 0} (code_of : P → Module) (local_of : P → Local) (waits_of : P → Type 0) where
-  pub stop_some : (s : Setting) (pid : ℕ) (old : Actor P) → Acts code_of local_of waits_of s (Stopped pid) old (Ends e.Waiting) old
+  pub stop_some : (s : Conditions) (pid : ℕ) (old : Actor P) → Acts code_of local_of waits_of s (Stopped pid) old (Ends e.Waiting) old
   stop_some s pid old (m.Running l vs) h = (m.Waiting, refl, λ machine i. ap (m.stops machine pid) i.stands ∙ holds_if _ _ i.timely)
   stop_some s pid old (m.Over how) h = absurd h
   stop_some s pid old (m.Left how) h = absurd h
 
-  pub gone_none : (s : Setting) (pid births drops moved : ℕ) (old : Actor P) → Acts code_of local_of waits_of s (Gone pid births drops moved) old Refused old
+  pub gone_none : (s : Conditions) (pid births drops moved : ℕ) (old : Actor P) → Acts code_of local_of waits_of s (Gone pid births drops moved) old Refused old
   gone_none s pid births drops moved old (m.Running l vs) h = (h, λ machine i. ap (m.leaves machine pid) i.stands)
   gone_none s pid births drops moved old (m.Over how) h = absurd h
   gone_none s pid births drops moved old (m.Left how) h = absurd h

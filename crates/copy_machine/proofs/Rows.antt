@@ -13,7 +13,7 @@ use Rattle.code_tree.specs.PlainTerms.{value}
 use Rattle.process_acts.specs.Acts.{Runs}
 use Rattle.process_acts.specs.declared.asking.Asking.{Asking}
 use Rattle.copy_machine.specs.Following.{StandsAt, Plays, IsRowOf, IsSound, AreRows}
-use Rattle.copy_machine.specs.Entering.{Setting, Acts, IsEffect, pid_of, is_gone}
+use Rattle.copy_machine.specs.Entering.{Conditions, Acts, IsEffect, pid_of, is_gone}
 use Rattle.copy_machine.specs.declared.act.Act.{Act}
 use Rattle.copy_machine.specs.declared.act.Act.TheVariants.{Ends}
 use Rattle.copy_machine.specs.declared.act.Effect.TheVariants as f
@@ -88,19 +88,19 @@ set_same (y ∷ ys) (suc i) x e = ap (λ zs. y ∷ zs) (set_same ys i x e)
 module _ {P : Type 0} (code_of : P → Module) (local_of : P → Local) (waits_of : P → Type 0) where
   -- ---- A process that doesn't run
 
-  pub ended_refuses : (s : Setting) (entry : Entry) (ending : Ending) (gone : Bool) → is_gone entry ≡ false → (p : m.Process) → IsRowOf code_of local_of waits_of s.code p (r.Ended ending gone) → IsEffect code_of local_of waits_of s entry p None (r.Ended ending gone)
+  pub ended_refuses : (s : Conditions) (entry : Entry) (ending : Ending) (gone : Bool) → is_gone entry ≡ false → (p : m.Process) → IsRowOf code_of local_of waits_of s.code p (r.Ended ending gone) → IsEffect code_of local_of waits_of s entry p None (r.Ended ending gone)
   ended_refuses s entry ending gone g (m.Running l vs) h = absurd h
   ended_refuses s entry ending false g (m.Over how) h = (h, λ machine i. over_refused machine entry how g i.stands)
   ended_refuses s entry ending true g (m.Over how) h = absurd h
   ended_refuses s entry ending false g (m.Left how) h = absurd h
   ended_refuses s entry ending true g (m.Left how) h = (h, λ machine i. left_refused machine entry how i.stands)
 
-  pub gone_refuses : (s : Setting) (entry : Entry) (ending : Ending) → (p : m.Process) → IsRowOf code_of local_of waits_of s.code p (r.Ended ending true) → IsEffect code_of local_of waits_of s entry p None (r.Ended ending true)
+  pub gone_refuses : (s : Conditions) (entry : Entry) (ending : Ending) → (p : m.Process) → IsRowOf code_of local_of waits_of s.code p (r.Ended ending true) → IsEffect code_of local_of waits_of s entry p None (r.Ended ending true)
   gone_refuses s entry ending (m.Running l vs) h = absurd h
   gone_refuses s entry ending (m.Over how) h = absurd h
   gone_refuses s entry ending (m.Left how) h = (h, λ machine i. left_refused machine entry how i.stands)
 
-  pub ended_leaves : (s : Setting) (entry : Entry) (ending : Ending) → is_gone entry ≡ true → (p : m.Process) → IsRowOf code_of local_of waits_of s.code p (r.Ended ending false) → IsEffect code_of local_of waits_of s entry p (Some f.Nothing) (r.Ended ending true)
+  pub ended_leaves : (s : Conditions) (entry : Entry) (ending : Ending) → is_gone entry ≡ true → (p : m.Process) → IsRowOf code_of local_of waits_of s.code p (r.Ended ending false) → IsEffect code_of local_of waits_of s entry p (Some f.Nothing) (r.Ended ending true)
   ended_leaves s entry ending g (m.Running l vs) h = absurd h
   ended_leaves s entry ending g (m.Over how) h = (m.Left how, h, tt, λ machine i. over_leaves machine entry how g i.stands)
   ended_leaves s entry ending g (m.Left how) h = absurd h
@@ -132,7 +132,7 @@ module _ {P : Type 0} (code_of : P → Module) (local_of : P → Local) (waits_o
   rests_ended ending gone code (m.Over how) h = (h, refl)
   rests_ended ending gone code (m.Left how) h = (h, refl)
 
-  pub ends_row : (s : Setting) (entry : Entry) (ending : Ending) (old new : Actor P) → Acts code_of local_of waits_of s entry old (Ends ending) new → (p : m.Process) → IsRowOf code_of local_of waits_of s.code p (r.Running old) → IsEffect code_of local_of waits_of s entry p (Some f.Nothing) (r.Ended ending false)
+  pub ends_row : (s : Conditions) (entry : Entry) (ending : Ending) (old new : Actor P) → Acts code_of local_of waits_of s entry old (Ends ending) new → (p : m.Process) → IsRowOf code_of local_of waits_of s.code p (r.Running old) → IsEffect code_of local_of waits_of s entry p (Some f.Nothing) (r.Ended ending false)
   ends_row s entry ending old new acts p h = let w = acts p h in (m.Over w.0, w.1, tt, w.2)
 
   -- ---- Rows and processes
@@ -182,10 +182,10 @@ module _ {P : Type 0} (code_of : P → Module) (local_of : P → Local) (waits_o
 
   -- ---- What an entry does to a row
 
-  pub leaves_row : (s : Setting) (entry : Entry) (ending : Ending) (row : Row P) → row ≡ r.Ended ending false → is_gone entry ≡ true → (p : m.Process) → IsRowOf code_of local_of waits_of s.code p row → IsEffect code_of local_of waits_of s entry p (Some f.Nothing) (r.Ended ending true)
+  pub leaves_row : (s : Conditions) (entry : Entry) (ending : Ending) (row : Row P) → row ≡ r.Ended ending false → is_gone entry ≡ true → (p : m.Process) → IsRowOf code_of local_of waits_of s.code p row → IsEffect code_of local_of waits_of s entry p (Some f.Nothing) (r.Ended ending true)
   leaves_row s entry ending row e g p h = ended_leaves s entry ending g p (subst (λ (x : Row P). IsRowOf code_of local_of waits_of s.code p x) e h)
 
-  pub over_row : (s : Setting) (entry : Entry) (ending : Ending) (row : Row P) (act : Act P) (old new : Actor P) → row ≡ r.Running old → act ≡ Ends ending → Acts code_of local_of waits_of s entry old act new
+  pub over_row : (s : Conditions) (entry : Entry) (ending : Ending) (row : Row P) (act : Act P) (old new : Actor P) → row ≡ r.Running old → act ≡ Ends ending → Acts code_of local_of waits_of s entry old act new
       → (p : m.Process) → IsRowOf code_of local_of waits_of s.code p row → IsEffect code_of local_of waits_of s entry p (Some f.Nothing) (r.Ended ending false)
   over_row s entry ending row act old new e is acts p h =
       ends_row s entry ending old new (subst (λ (x : Act P). Acts code_of local_of waits_of s entry old x new) is acts) p (subst (λ (x : Row P). IsRowOf code_of local_of waits_of s.code p x) e h)

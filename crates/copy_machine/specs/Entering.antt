@@ -7,7 +7,7 @@ use Rattle.term_value.specs.Machine as m
 use Rattle.term_value.specs.declared.entry.Entry.{Entry}
 use Rattle.term_value.specs.declared.entry.Entry.TheVariants.{Sent, Saw, Shown, Started, Full, Ended, Stopped, Gone}
 use Rattle.code_tree.specs.PlainTerms.{value}
-use Rattle.code_tree.specs.Reading.{module_of}
+use Rattle.code_tree.specs.Reading.{module_meant}
 use Rattle.code_tree.specs.declared.code.Code.{Code}
 use Rattle.process_acts.specs.Acts.{Runs, IsAsking, Answered}
 use Rattle.process_acts.specs.declared.asking.Asking.{Asking}
@@ -46,16 +46,16 @@ IsTimely (Stopped pid) machine = m.all_at_rest machine ≡ true
 IsTimely _ machine = Unit {0}
 
 -- the module, the reductions of a process, and how many were started
-pub record Setting : Type 0 where
+pub record Conditions : Type 0 where
   pub code : Module
   pub reductions : ℕ
   pub started : ℕ
 
-abbrev pub setting : Code → ℕ → ℕ → Setting
-setting code reductions started = record { code = module_of code; reductions = reductions; started = started }
+abbrev pub conditions : Code → ℕ → ℕ → Conditions
+conditions code reductions started = record { code = module_meant code; reductions = reductions; started = started }
 
--- a machine in this setting, in which the entry's process stands so
-pub record IsIn (s : Setting) (entry : Entry) (p : m.Process) (machine : m.Machine) : Type 0 where
+-- a machine under these conditions, in which the entry's process stands so
+pub record IsIn (s : Conditions) (entry : Entry) (p : m.Process) (machine : m.Machine) : Type 0 where
   pub code : machine.code ≡ s.code
   pub reductions : machine.reductions ≡ s.reductions
   pub started : length machine.processes ≡ s.started
@@ -75,24 +75,24 @@ IsOfCode code_of code (f.Starts process) = code_of process ≡ code
 IsOfCode code_of code _ = Unit {0}
 
 -- the entry fits each such machine: its process becomes q, and beside that the effect is all
-abbrev pub Does : {P : Type 0} → (P → Local) → Setting → Entry → m.Process → m.Process → Effect P → Type 0
+abbrev pub Does : {P : Type 0} → (P → Local) → Conditions → Entry → m.Process → m.Process → Effect P → Type 0
 Does local_of s entry p q effect = (machine : m.Machine) → IsIn s entry p machine → m.applied machine entry ≡ Some (took local_of effect (m.with_process machine (pid_of entry) q))
 
 -- it fits none
-abbrev pub IsRefused : Setting → Entry → m.Process → Type 0
+abbrev pub IsRefused : Conditions → Entry → m.Process → Type 0
 IsRefused s entry p = (machine : m.Machine) → IsIn s entry p machine → m.applied machine entry ≡ None
 
 -- what an entry does to a process that runs
-abbrev pub IsAct : {P : Type 0} → (P → Module) → (P → Local) → (P → Type 0) → Setting → Entry → m.Process → Act P → Actor P → Type 0
+abbrev pub IsAct : {P : Type 0} → (P → Module) → (P → Local) → (P → Type 0) → Conditions → Entry → m.Process → Act P → Actor P → Type 0
 IsAct code_of local_of waits_of s entry p Refused a = IsRowOf code_of local_of waits_of s.code p (r.Running a) × IsRefused s entry p
 IsAct code_of local_of waits_of s entry p (Goes effect) a = (q : m.Process) × IsRowOf code_of local_of waits_of s.code q (r.Running a) × IsOfCode code_of s.code effect × Does local_of s entry p q effect
 IsAct {P} code_of local_of waits_of s entry p (Ends ending) a = (how : m.End) × (ending ≡ ending_of s.code how) × Does {P = P} local_of s entry p (m.Over how) f.Nothing
 
 -- so it is whatever process of the definitions the actor plays
-abbrev pub Acts : {P : Type 0} → (P → Module) → (P → Local) → (P → Type 0) → Setting → Entry → Actor P → Act P → Actor P → Type 0
+abbrev pub Acts : {P : Type 0} → (P → Module) → (P → Local) → (P → Type 0) → Conditions → Entry → Actor P → Act P → Actor P → Type 0
 Acts code_of local_of waits_of s entry old act new = (p : m.Process) → IsRowOf code_of local_of waits_of s.code p (r.Running old) → IsAct code_of local_of waits_of s entry p act new
 
-abbrev pub IsEffect : {P : Type 0} → (P → Module) → (P → Local) → (P → Type 0) → Setting → Entry → m.Process → Option (Effect P) → Row P → Type 0
+abbrev pub IsEffect : {P : Type 0} → (P → Module) → (P → Local) → (P → Type 0) → Conditions → Entry → m.Process → Option (Effect P) → Row P → Type 0
 IsEffect code_of local_of waits_of s entry p None row = IsRowOf code_of local_of waits_of s.code p row × IsRefused s entry p
 IsEffect code_of local_of waits_of s entry p (Some effect) row = (q : m.Process) × IsRowOf code_of local_of waits_of s.code q row × IsOfCode code_of s.code effect × Does local_of s entry p q effect
 

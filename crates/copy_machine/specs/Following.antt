@@ -7,7 +7,7 @@ use Rattle.term_value.specs.Step.{name_in}
 use Rattle.term_value.specs.Local.{Local}
 use Rattle.term_value.specs.Machine as m
 use Rattle.code_tree.specs.PlainTerms.{value}
-use Rattle.code_tree.specs.Reading.{module_of}
+use Rattle.code_tree.specs.Reading.{module_meant}
 use Rattle.process_acts.specs.Acts.{Runs, IsAsking}
 use Rattle.process_acts.specs.declared.asking.Asking.{Asking}
 use Rattle.copy_machine.specs.declared.ending.Ending.{Ending}
@@ -55,7 +55,7 @@ AreRows code_of local_of waits_of code _ _ = ⊥
 
 -- the machine stands as a machine of the definitions does
 pub record Follows {P : Type 0} (code_of : P → Module) (local_of : P → Local) (waits_of : P → Type 0) (machine : m.Machine) (c : Machine P) : Type 0 where
-  pub code : machine.code ≡ module_of c.world.code.now
+  pub code : machine.code ≡ module_meant c.world.code.now
   pub reductions : machine.reductions ≡ c.world.reductions
   pub rows : AreRows code_of local_of waits_of machine.code machine.processes c.rows.items
   pub shown : c.shown.items ≡ map (text (name_in machine.code)) machine.shown

@@ -1,10 +1,10 @@
 ghost use Rattle.std.specs.Prelude.{◌≡◌, ◌&&◌, ◌+◌, ℕ, IfOk, nat_eq, nat_le};
-ghost use Rattle.code_tree.specs.Reading.{module_of};
+ghost use Rattle.code_tree.specs.Reading.{module_meant};
 ghost use Rattle.code_tree.specs.PlainTerms.{value};
 ghost use Rattle.process_acts.specs.Acts.{AwaitsAnswer};
 ghost use Rattle.term_value.specs.Machine.{process_bound};
 ghost use Rattle.copy_machine.specs.Following.{StandsAt};
-ghost use Rattle.copy_machine.specs.Entering.{Acts, Answers, Rests, Setting, Settles, setting};
+ghost use Rattle.copy_machine.specs.Entering.{Acts, Answers, Rests, Conditions, Settles, conditions};
 ghost use Rattle.copy_machine.specs.Proceeding.{KeepsActor};
 
 use crate::act::{Act, Effect};
@@ -87,7 +87,7 @@ impl<P: Process + Drop> Actor<P> {
     // Sends a message to this pid.
     fn send(&mut self, to: u32) -> Result<Act<P>, AllocError>
         requires { StandsAt P.code P.local P.waits self.old.process self.old.ask }
-        ensures { IfOk result (λ act. (s : Setting) (pid : ℕ) → Acts P.code P.local P.waits s (Entry.Sent pid to) self.old act self.new) }
+        ensures { IfOk result (λ act. (s : Conditions) (pid : ℕ) → Acts P.code P.local P.waits s (Entry.Sent pid to) self.old act self.new) }
     {
         self.settle()?;
         match message_to(&self.ask, to)? {
@@ -103,7 +103,7 @@ impl<P: Process + Drop> Actor<P> {
     // Displays a value.
     fn show(&mut self) -> Result<Act<P>, AllocError>
         requires { StandsAt P.code P.local P.waits self.old.process self.old.ask }
-        ensures { IfOk result (λ act. (s : Setting) (pid : ℕ) → Acts P.code P.local P.waits s (Entry.Shown pid) self.old act self.new) }
+        ensures { IfOk result (λ act. (s : Conditions) (pid : ℕ) → Acts P.code P.local P.waits s (Entry.Shown pid) self.old act self.new) }
     {
         self.settle()?;
         match shown_by(&self.ask)? {
@@ -119,7 +119,7 @@ impl<P: Process + Drop> Actor<P> {
     // Ends.
     fn end(&mut self, world: &World<'_>) -> Result<Act<P>, AllocError>
         requires { StandsAt P.code P.local P.waits self.old.process self.old.ask }
-        ensures { IfOk result (λ act. (s : Setting) (pid : ℕ) → s.code ≡ module_of world.now.code.now → Acts P.code P.local P.waits s (Entry.Ended pid) self.old act self.new) }
+        ensures { IfOk result (λ act. (s : Conditions) (pid : ℕ) → s.code ≡ module_meant world.now.code.now → Acts P.code P.local P.waits s (Entry.Ended pid) self.old act self.new) }
     {
         self.settle()?;
         match ended_by(world, &self.ask)? {
@@ -131,7 +131,7 @@ impl<P: Process + Drop> Actor<P> {
     // Sees all unseen messages, so many.
     fn see(&mut self, alloc: Global, count: u32) -> Result<Act<P>, AllocError>
         requires { StandsAt P.code P.local P.waits self.old.process self.old.ask }
-        ensures { IfOk result (λ act. (s : Setting) (pid : ℕ) → Acts P.code P.local P.waits s (Entry.Saw pid count) self.old act self.new) }
+        ensures { IfOk result (λ act. (s : Conditions) (pid : ℕ) → Acts P.code P.local P.waits s (Entry.Saw pid count) self.old act self.new) }
     {
         self.settle()?;
         if is_more(&self.ask) {
@@ -151,7 +151,7 @@ impl<P: Process + Drop> Actor<P> {
     // Goes on where no more processes may be started.
     fn fill(&mut self, started: usize) -> Result<Act<P>, AllocError>
         requires { StandsAt P.code P.local P.waits self.old.process self.old.ask }
-        ensures { IfOk result (λ act. (s : Setting) (pid : ℕ) → s.started ≡ started → Acts P.code P.local P.waits s (Entry.Full pid) self.old act self.new) }
+        ensures { IfOk result (λ act. (s : Conditions) (pid : ℕ) → s.started ≡ started → Acts P.code P.local P.waits s (Entry.Full pid) self.old act self.new) }
     {
         self.settle()?;
         if is_start(&self.ask) {
@@ -170,7 +170,7 @@ impl<P: Process + Drop> Actor<P> {
     // Starts the process of this pid.
     fn start(&mut self, world: &World<'_>, child: u32, started: usize) -> Result<Act<P>, AllocError>
         requires { StandsAt P.code P.local P.waits self.old.process self.old.ask }
-        ensures { IfOk result (λ act. (s : Setting) (pid : ℕ) → s ≡ setting world.now.code.now world.now.reductions started → Acts P.code P.local P.waits s (Entry.Started pid child) self.old act self.new) }
+        ensures { IfOk result (λ act. (s : Conditions) (pid : ℕ) → s ≡ conditions world.now.code.now world.now.reductions started → Acts P.code P.local P.waits s (Entry.Started pid child) self.old act self.new) }
     {
         self.settle()?;
         if is_next(child, started) {
@@ -199,7 +199,7 @@ impl<P: Process + Drop> Actor<P> {
         started: usize,
     ) -> Result<Act<P>, AllocError>
         requires { StandsAt P.code P.local P.waits self.old.process self.old.ask }
-        ensures { IfOk result (λ act. (s : Setting) → s ≡ setting world.now.code.now world.now.reductions started → Acts P.code P.local P.waits s entry self.old act self.new) }
+        ensures { IfOk result (λ act. (s : Conditions) → s ≡ conditions world.now.code.now world.now.reductions started → Acts P.code P.local P.waits s entry self.old act self.new) }
     {
         match entry {
             Entry::Sent { from: _, to } => Ok(self.send(to)?),

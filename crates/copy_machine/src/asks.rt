@@ -1,7 +1,7 @@
 //! What an ask is for.
 ghost use Rattle.std.specs.Prelude.{◌≡◌, IfOk};
 ghost use Rattle.code_tree.specs.PlainTerms.{value};
-ghost use Rattle.code_tree.specs.Reading.{module_of};
+ghost use Rattle.code_tree.specs.Reading.{module_meant};
 ghost use Rattle.term_value.specs.Value.{count};
 ghost use Rattle.copy_machine.specs.Asks.{arguments_of, called_by, ended_by, is_more, is_start, message_to, shown_by};
 
@@ -84,7 +84,7 @@ pub fn is_more(ask: &Option<Asking>) -> bool
 
 /// How the process ended, where it did.
 pub fn ended_by(world: &World<'_>, ask: &Option<Asking>) -> Result<Option<Ending>, AllocError>
-    ensures { IfOk result (λ ending. ending ≡ ended_by (module_of world.now.code.now) ask.now) }
+    ensures { IfOk result (λ ending. ending ≡ ended_by (module_meant world.now.code.now) ask.now) }
 {
     match ask {
         Some(Asking::Done) => Ok(Some(Ending::Normal)),

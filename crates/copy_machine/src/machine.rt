@@ -4,7 +4,7 @@ ghost use Rattle.term_value.specs.Machine as m;
 ghost use Rattle.term_value.specs.Outcomes.{IsOutcome};
 ghost use Rattle.copy_machine.specs.Replaying.{has_left};
 ghost use Rattle.code_tree.specs.PlainTerms.{value};
-ghost use Rattle.code_tree.specs.Reading.{module_of};
+ghost use Rattle.code_tree.specs.Reading.{module_meant};
 ghost use Rattle.copy_machine.specs.Following.{Follows, IsFollower};
 ghost use Rattle.copy_machine.specs.Entering.{AllRest, Applies, Enters, MayEnter, IsOfCode, IsTimely, RestsAt, pid_of, took};
 ghost use Rattle.copy_machine.specs.Proceeding.{Keeps};
@@ -35,8 +35,8 @@ pub struct Machine<'a, P> {
 impl<'a, P: Process + Drop> Machine<'a, P> {
     /// The machine with this process alone.
     pub fn start(world: World<'a>, first: P) -> Result<Machine<'a, P>, AllocError>
-        requires { P.code first ≡ module_of world.code.now }
-        ensures { IfOk result (λ c. Follows P.code P.local P.waits (m.beginning (module_of world.entry.code.now) world.entry.reductions (P.local first)) c) }
+        requires { P.code first ≡ module_meant world.code.now }
+        ensures { IfOk result (λ c. Follows P.code P.local P.waits (m.beginning (module_meant world.entry.code.now) world.entry.reductions (P.local first)) c) }
     {
         let mut rows = Vec::new(world.alloc);
         rows.push(Row::Running(Actor {

@@ -3,7 +3,7 @@ ghost use Rattle.code_tree.specs.PlainTerms.{value};
 ghost use Rattle.term_value.specs.Tree.{Module};
 ghost use Rattle.term_value.specs.Machine.{Process as Played, is_at_rest, receives};
 ghost use Rattle.copy_machine.specs.Following.{IsRowOf, IsSound};
-ghost use Rattle.copy_machine.specs.Entering.{IsEffect, Setting, is_gone, setting};
+ghost use Rattle.copy_machine.specs.Entering.{IsEffect, Conditions, is_gone, conditions};
 ghost use Rattle.copy_machine.specs.Proceeding.{KeepsRow};
 
 use crate::act::{Act, Effect};
@@ -46,7 +46,7 @@ impl<P: Process + Drop> Row<P> {
         started: usize,
     ) -> Result<Option<Effect<P>>, AllocError>
         requires { IsSound P.code P.local P.waits self.old }
-        ensures { IfOk result (λ effect. (s : Setting) → s ≡ setting world.now.code.now world.now.reductions started
+        ensures { IfOk result (λ effect. (s : Conditions) → s ≡ conditions world.now.code.now world.now.reductions started
             → (p : Played) → IsRowOf P.code P.local P.waits s.code p self.old → IsEffect P.code P.local P.waits s entry p effect self.new) }
     {
         match self {

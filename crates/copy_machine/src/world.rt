@@ -1,7 +1,7 @@
 ghost use Rattle.std.specs.Prelude.{◌≡◌, ◌==◌, ◌&&◌, IfOk, bytes_eq, codes, nat_eq, true};
 ghost use Rattle.std.specs.List.{position};
 ghost use Rattle.code_tree.specs.PlainTerms.{value};
-ghost use Rattle.code_tree.specs.Reading.{module_of};
+ghost use Rattle.code_tree.specs.Reading.{module_meant};
 ghost use Rattle.erl_syntax.specs.Reading.{number_in};
 ghost use Rattle.process_acts.specs.Acts.{IsFirst};
 ghost use Rattle.term_value.specs.Local.{Local};
@@ -32,7 +32,7 @@ pub struct World<'a> {
 impl World<'_> {
     /// The text of a value, as it is displayed.
     pub fn text(&self, term: &PlainTerm) -> Result<Text, AllocError>
-        ensures { IfOk result (λ shown. shown ≡ text (name_in (module_of self.now.code.now)) (value term.now)) }
+        ensures { IfOk result (λ shown. shown ≡ text (name_in (module_meant self.now.code.now)) (value term.now)) }
     {
         let store = PlainStore::new(self.alloc);
         let look = StoreLook {
@@ -54,14 +54,14 @@ impl World<'_> {
 
     /// The place of the exported function of this name and number of arguments.
     pub fn exported(&self, name: u32, arity: u32) -> Option<usize>
-        ensures { result ≡ exported_in true (module_of self.now.code.now) name arity }
+        ensures { result ≡ exported_in true (module_meant self.now.code.now) name arity }
     {
         self.first_exported(name, arity)
     }
 
     /// The place of the exported function that a call names. The error says that there is no room for so large a place.
     pub fn place(&self, module_name: u32, name: u32, arity: u32) -> Result<Option<u32>, AllocError>
-        ensures { IfOk result (λ place. place ≡ exported_in (nat_eq module_name self.now.code.now.name) (module_of self.now.code.now) name arity) }
+        ensures { IfOk result (λ place. place ≡ exported_in (nat_eq module_name self.now.code.now.name) (module_meant self.now.code.now) name arity) }
     {
         if module_name != self.code.name {
             return Ok(None);
@@ -77,7 +77,7 @@ impl World<'_> {
 
     /// With what a process begins that is started by a call.
     pub fn first(&self, call: Call, pid: u32) -> Result<First, AllocError>
-        ensures { IfOk result (λ first. Begins (module_of self.now.code.now) self.now.reductions pid call first) }
+        ensures { IfOk result (λ first. Begins (module_meant self.now.code.now) self.now.reductions pid call first) }
     {
         let arity = arity(&call.arguments)?;
         let function = self.place(call.module_name, call.function, arity)?;
@@ -110,7 +110,7 @@ impl World<'_> {
     /// With what process 1 begins: the call of `main/0`. The error says that there is no room for so large a number.
     pub fn begin(&self) -> Result<First, AllocError>
         ensures { IfOk result (λ first. (l : Local) → IsFirst first l
-            → let code = module_of self.now.code.now in l ≡ first_of code self.now.reductions 1 code.name (number_in code.atoms (codes "main")) none) }
+            → let code = module_meant self.now.code.now in l ≡ first_of code self.now.reductions 1 code.name (number_in code.atoms (codes "main")) none) }
     {
         match u32::try_from(self.number(b"main")) {
             Ok(function) => {

@@ -1,6 +1,6 @@
 ghost use Rattle.std.specs.Prelude.{IfOk};
 ghost use Rattle.term_value.specs.Machine.{start_of};
-ghost use Rattle.code_tree.specs.Reading.{module_of};
+ghost use Rattle.code_tree.specs.Reading.{module_meant};
 ghost use Rattle.copy_machine.specs.Following.{Follows};
 ghost use Rattle.plain_process.specs.Standing.{code_of, local_of, waits_of};
 
@@ -15,7 +15,7 @@ pub fn start<'a>(
     code: &'a Code,
     reductions: u32,
 ) -> Result<Machine<'a, PlainProcess<'a>>, AllocError>
-    ensures { IfOk result (λ machine. Follows code_of local_of waits_of (start_of (module_of code.now) reductions) machine) }
+    ensures { IfOk result (λ machine. Follows code_of local_of waits_of (start_of (module_meant code.now) reductions) machine) }
 {
     let world = World {
         alloc,

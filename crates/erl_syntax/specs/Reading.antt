@@ -81,14 +81,14 @@ before w [] = w ∷ []
 before w (v ∷ ws) = if are_strings w.kind v.kind then record { kind = w.kind; at = w.at; number = w.number; chars = w.chars ++ v.chars } ∷ ws else w ∷ v ∷ ws
 
 -- strings that follow one another are one
-abbrev pub joined : List Word → List Word
-joined [] = []
-joined (w ∷ ws) = before w (joined ws)
+abbrev pub strings_joined : List Word → List Word
+strings_joined [] = []
+strings_joined (w ∷ ws) = before w (strings_joined ws)
 
 -- The tokens of a text with what they stand for, where the atoms have the table's numbers. Layout and comments may stand between
 -- strings that are one.
 abbrev pub words_of : List ℕ → List (List ℕ) → List Token → List Word
-words_of text table tokens = joined (map (word_of text table) tokens)
+words_of text table tokens = strings_joined (map (word_of text table) tokens)
 
 -- ---- Reading
 

@@ -10,7 +10,7 @@ use Rattle.erl_syntax.specs.declared.expr.Expr.{Expr}
 use Rattle.erl_syntax.specs.declared.pattern.Pattern.{Pattern}
 use Rattle.erl_syntax.specs.declared.clause.Item.{Item}
 use Rattle.module_check.specs.declared.trees.Node.{Node}
-use Rattle.module_check.specs.declared.tasks.Setting.{Setting}
+use Rattle.module_check.specs.declared.tasks.Facts.{Facts}
 use Rattle.module_check.specs.Nodes.{Sees, SeesUnsafe, Grown}
 use Rattle.module_check.specs.Tasks.{Means, left_behind}
 use Rattle.module_check.specs.Unsafe.{unsafe_of, item_unsafe, items_unsafe, item_bound, items_bound}
@@ -167,17 +167,17 @@ module _ (s : Scope) (bs : List Bound) (is : List Item) where
       (same_twice (ended ++ a ∷ []) ((ended ++ bound_here ∷ []) ++ b ∷ []) mid (same_back _ _ (danger_joined ended s.known (names bs ++ items_bound is) before)) (same_on (ended ++ bound_here ∷ []) (s.dangers ++ left_here ∷ []) b alternative))
       (same_twice mid (s.dangers ++ c ∷ []) (s.dangers ++ d ∷ []) (danger_joined s.dangers s.known (names bs ++ items_unsafe is) before) (swapped s.known s.dangers (names bs ++ items_unsafe is) before))
 
--- the settings behind parts
-pub means_left : (nodes : List Node) (t : Setting) (s : Scope) (ns : List (List ℕ)) (e : Expr) → ns ≡ (vars_of e).left_unsafe → Means nodes t (left_behind ns s) → Means nodes t (behind (e ∷ []) s)
+-- the facts behind parts
+pub means_left : (nodes : List Node) (t : Facts) (s : Scope) (ns : List (List ℕ)) (e : Expr) → ns ≡ (vars_of e).left_unsafe → Means nodes t (left_behind ns s) → Means nodes t (behind (e ∷ []) s)
 means_left nodes t s ns e h m = let P : List (List ℕ) → Type 0 = λ zs. Means nodes t (left_behind zs s) in subst P h m
 
-pub means_start : (nodes : List Node) (t : Setting) (s : Scope) → Means nodes t s → Means nodes t (left_behind [] s)
+pub means_start : (nodes : List Node) (t : Facts) (s : Scope) → Means nodes t s → Means nodes t (left_behind [] s)
 means_start nodes t s m = record { known = m.known; dangers = sees_same nodes t.dangers _ _ (danger_none s.dangers s.known) m.dangers; guarded = m.guarded }
 
-pub means_flat : (nodes : List Node) (t : Setting) (s : Scope) (es : List Expr) (e : Expr) → unsafe_of es ≡ (vars_of e).left_unsafe → Means nodes t (behind es s) → Means nodes t (behind (e ∷ []) s)
+pub means_flat : (nodes : List Node) (t : Facts) (s : Scope) (es : List Expr) (e : Expr) → unsafe_of es ≡ (vars_of e).left_unsafe → Means nodes t (behind es s) → Means nodes t (behind (e ∷ []) s)
 means_flat nodes t s es e h m = means_left nodes t s (unsafe_of es) e h (record { known = m.known; dangers = sees_same nodes t.dangers _ _ (behind_flat s.known s.dangers es) m.dangers; guarded = m.guarded })
 
-pub means_chosen : (nodes : List Node) (t : Setting) (s : Scope) (ys : List Expr) (ns : List (List ℕ)) (e : Expr) → unsafe_of ys ++ ns ≡ (vars_of e).left_unsafe → Means nodes t (left_behind ns (behind ys s)) → Means nodes t (behind (e ∷ []) s)
+pub means_chosen : (nodes : List Node) (t : Facts) (s : Scope) (ys : List Expr) (ns : List (List ℕ)) (e : Expr) → unsafe_of ys ++ ns ≡ (vars_of e).left_unsafe → Means nodes t (left_behind ns (behind ys s)) → Means nodes t (behind (e ∷ []) s)
 means_chosen nodes t s ys ns e h m =
     let d : Danger = record { left_unsafe = ns; known = s.known } in
     let a : Danger = record { left_unsafe = unsafe_of ys; known = s.known } in
@@ -190,7 +190,7 @@ means_chosen nodes t s ys ns e h m =
     })
 
 -- what is unsafe behind alternatives where one more is put to them
-module _ (old new : List Node) (joined to : Setting) (s : Scope) (before : List (List ℕ)) (grown : Grown old new) (known : to.known ≡ joined.known) (guarded : to.guarded ≡ joined.guarded) (means : Means old joined (left_behind before s)) where
+module _ (old new : List Node) (joined to : Facts) (s : Scope) (before : List (List ℕ)) (grown : Grown old new) (known : to.known ≡ joined.known) (guarded : to.guarded ≡ joined.guarded) (means : Means old joined (left_behind before s)) where
   with_dangers : (ns : List (List ℕ)) → SeesUnsafe new to.dangers (s.dangers ++ record { left_unsafe = ns; known = s.known } ∷ []) → Means new to (left_behind ns s)
   with_dangers ns h = (let P : ℕ → Type 0 = λ k. Sees new k s.known in record { known = subst P (sym known) (sees_grown old new grown joined.known s.known means.known); dangers = h; guarded = guarded ∙ means.guarded })
 
@@ -199,7 +199,7 @@ module _ (old new : List Node) (joined to : Setting) (s : Scope) (before : List 
       let P : List (List ℕ) → Type 0 = λ zs. SeesUnsafe new to.dangers ((s.dangers ++ record { left_unsafe = before; known = s.known } ∷ []) ++ record { left_unsafe = zs; known = s.known } ∷ []) in
       with_dangers (before ++ more) (sees_same new to.dangers _ _ (danger_joined s.dangers s.known before more) (subst P e (put _ s.known means.dangers means.known)))
 
-  pub means_larger : (after : Setting) (bs : List Bound) (is : List Item) (ns : List (List ℕ)) → ns ≡ (names bs ++ items_bound is) ++ before → Means old after (past_items is (with_known bs s))
+  pub means_larger : (after : Facts) (bs : List Bound) (is : List Item) (ns : List (List ℕ)) → ns ≡ (names bs ++ items_bound is) ++ before → Means old after (past_items is (with_known bs s))
       → ((ds : List Danger) (cs : List Bound) → SeesUnsafe old after.dangers ds → Sees old joined.known cs → SeesUnsafe new to.dangers (ds ++ record { left_unsafe = ns; known = cs } ∷ [])) → Means new to (left_behind (before ++ (names bs ++ items_unsafe is)) s)
   means_larger after bs is ns e m put =
       let P : List (List ℕ) → Type 0 = λ zs. SeesUnsafe new to.dangers ((past_items is (with_known bs s)).dangers ++ record { left_unsafe = zs; known = s.known } ∷ []) in

@@ -18,7 +18,7 @@ use Rattle.std.proofs.lemmas.Grind.{flat_map-append}
 use Rattle.erl_syntax.specs.Scopes.{Danger}
 use Rattle.erl_syntax.specs.Bindings.{vars_of, new_names, qual_unsafe}
 use Rattle.module_check.specs.declared.trees.Node.{Node}
-use Rattle.module_check.specs.declared.tasks.Setting.{Setting}
+use Rattle.module_check.specs.declared.tasks.Facts.{Facts}
 use Rattle.module_check.specs.Nodes.{Agree, Sees, SeesUnsafe, Grown, TreeOf}
 use Rattle.module_check.specs.Tasks.{Means, SeesSizes}
 use Rattle.module_check.proofs.Chained.{sees_grown, unsafe_grown, itself}
@@ -138,7 +138,7 @@ agree_moved p xs ys h = record {
       | inr e ↦ inr (e, found_left xs ys n z f)
     ]
 
-pub pass_on : (n0 n1 n2 : List Node) (t : Setting) (known sizes : ℕ) (b : Bound) (place : Span) (s : Scope) (bs : List Bound) → Grown n0 n1 → Grown n1 n2
+pub pass_on : (n0 n1 n2 : List Node) (t : Facts) (known sizes : ℕ) (b : Bound) (place : Span) (s : Scope) (bs : List Bound) → Grown n0 n1 → Grown n1 n2
     → ((ks : List Bound) → Sees n0 t.known ks → Sees n1 known (ks ++ b ∷ [])) → ((cs : List Bound) → TreeOf n1 known cs → Found cs b.name place)
     → ((cs : List Bound) → TreeOf n1 t.sizes cs → TreeOf n2 sizes (record { name = b.name; at = place } ∷ cs))
     → Passes n0 t (passed bs s) → Passes n2 (record t { known = known; sizes = sizes }) (passed (bs ++ b ∷ []) s)
@@ -169,7 +169,7 @@ pass_on n0 n1 n2 t known sizes b place s bs g h add found put m =
       sizes = subst R same new;
     }
 
-pub pass_known : (n0 n1 : List Node) (t : Setting) (known : ℕ) (b : Bound) (s : Scope) (bs : List Bound)
+pub pass_known : (n0 n1 : List Node) (t : Facts) (known : ℕ) (b : Bound) (s : Scope) (bs : List Bound)
     → ((ks : List Bound) → Sees n0 t.known ks → Sees n1 known (ks ++ b ∷ [])) → ((cs : List Bound) → TreeOf n1 known cs → IsKnown cs b.name → ⊥) → Passes n0 t (passed bs s) → ⊥
 pass_known n0 n1 t known b s bs add missing m =
     let ks = s.known ++ bs in
@@ -177,13 +177,13 @@ pass_known n0 n1 t known b s bs add missing m =
     let Q : List (List ℕ) → Type 0 = λ v. Contains v b.name in
     missing sees.chain sees.stands (same_known (ks ++ b ∷ []) sees.chain b.name (flip sees.chain (ks ++ b ∷ []) sees.same) (subst Q (sym (map-append (λ c. c.name) ks (b ∷ []))) (Contains-push (names ks) b.name)))
 
-pub passes_grown : (old new : List Node) (t : Setting) (s : Scope) → Grown old new → Passes old t s → Passes new t s
+pub passes_grown : (old new : List Node) (t : Facts) (s : Scope) → Grown old new → Passes old t s → Passes new t s
 passes_grown old new t s g h = record { means = means_grown old new t s g h.means; sizes = sees_grown old new g t.sizes (size_scope s).known h.sizes }
 
-pub passes_front : {X : Type 0} (nodes : List Node) (t : Setting) (F : X → Scope) (a b : X) → a ≡ b → Passes nodes t (F a) → Passes nodes t (F b)
+pub passes_front : {X : Type 0} (nodes : List Node) (t : Facts) (F : X → Scope) (a b : X) → a ≡ b → Passes nodes t (F a) → Passes nodes t (F b)
 passes_front {X} nodes t F a b e h = let P : X → Type 0 = λ z. Passes nodes t (F z) in subst P e h
 
-pub passes_none : (nodes : List Node) (t : Setting) (s : Scope) → Means nodes t s → Sees nodes t.sizes s.outer → Passes nodes t (past_segments [] s)
+pub passes_none : (nodes : List Node) (t : Facts) (s : Scope) → Means nodes t s → Sees nodes t.sizes s.outer → Passes nodes t (past_segments [] s)
 passes_none nodes t s m o =
     let P : List Bound → Type 0 = λ zs. Sees nodes t.known zs in
     record { means = record { known = subst P (sym (append-nil s.known)) m.known; dangers = m.dangers; guarded = m.guarded }; sizes = o }
@@ -192,12 +192,12 @@ pub segments_more : (front : List Segment) (sg : Segment) → segment_targets fr
 segments_more front sg = ap (λ zs. segment_targets front ++ zs) (sym (append-nil (vars_of_segment sg).own)) ∙ sym (flat_map-append (λ g. (vars_of_segment g).own) front (sg ∷ []))
 
 -- qualifiers
-pub means_new : (nodes more : List Node) (t : Setting) (k : ℕ) (bs : List Bound) (g : Qual) → bs ≡ new_names g → Grown nodes more → ((ks : List Bound) → Sees nodes t.known ks → Sees more k (bs ++ ks)) → (s : Scope) → Means nodes t s → Means more (record t { known = k }) (with_new g s)
+pub means_new : (nodes more : List Node) (t : Facts) (k : ℕ) (bs : List Bound) (g : Qual) → bs ≡ new_names g → Grown nodes more → ((ks : List Bound) → Sees nodes t.known ks → Sees more k (bs ++ ks)) → (s : Scope) → Means nodes t s → Means more (record t { known = k }) (with_new g s)
 means_new nodes more t k bs g e w put s h =
     let P : List Bound → Type 0 = λ zs. Sees more k (zs ++ s.known) in
     record { known = subst P e (put s.known h.known); dangers = unsafe_grown nodes more w t.dangers s.dangers h.dangers; guarded = h.guarded }
 
-pub means_past_qual : (n0 n1 n2 : List Node) (t u : Setting) (k : ℕ) (ns : List (List ℕ)) (g : Qual) → ns ≡ qual_unsafe g → Grown n0 n1 → Grown n1 n2
+pub means_past_qual : (n0 n1 n2 : List Node) (t u : Facts) (k : ℕ) (ns : List (List ℕ)) (g : Qual) → ns ≡ qual_unsafe g → Grown n0 n1 → Grown n1 n2
     → ((ds : List Danger) (bs : List Bound) → SeesUnsafe n0 t.dangers ds → Sees n0 t.known bs → SeesUnsafe n1 k (ds ++ record { left_unsafe = ns; known = bs } ∷ []))
     → ((s : Scope) → Means n1 t s → Means n2 u (with_new g s)) → (s : Scope) → Means n0 t s → Means n2 (record u { dangers = k }) (past_quals (g ∷ []) s)
 means_past_qual n0 n1 n2 t u k ns g e a b put new s h =
@@ -213,10 +213,10 @@ pub generated_more : (front : List Qual) (g : Qual) (known : List Bound) → new
 generated_more [] g known = refl
 generated_more (j ∷ front) g known = generated_more front g (new_names j ++ known)
 
-pub means_generate : (nodes : List Node) (t : Setting) (s : Scope) → Means nodes t s → Means nodes (record t { known = 0; sizes = t.known }) (to_generate s)
+pub means_generate : (nodes : List Node) (t : Facts) (s : Scope) → Means nodes t s → Means nodes (record t { known = 0; sizes = t.known }) (to_generate s)
 means_generate nodes t s h = record { known = record { chain = []; stands = chain_none nodes; same = itself [] }; dangers = h.dangers; guarded = h.guarded }
 
-pub means_size : (nodes : List Node) (t : Setting) (s : Scope) → Means nodes t s → Sees nodes t.sizes (size_scope s).known → Means nodes (record t { known = t.sizes; guarded = true }) (size_scope s)
+pub means_size : (nodes : List Node) (t : Facts) (s : Scope) → Means nodes t s → Sees nodes t.sizes (size_scope s).known → Means nodes (record t { known = t.sizes; guarded = true }) (size_scope s)
 means_size nodes t s h k = record { known = k; dangers = h.dangers; guarded = refl }
 
 pub means_nothing : (nodes : List Node) → Means nodes (record { known = 0; sizes = 0; dangers = 0; guarded = false }) nothing_known

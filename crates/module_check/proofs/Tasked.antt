@@ -14,7 +14,7 @@ use Rattle.std.proofs.lemmas.Grind.{flat_map-append}
 use Rattle.erl_syntax.specs.Scopes.{Danger}
 use Rattle.erl_syntax.specs.Bindings.{vars_of}
 use Rattle.module_check.specs.declared.trees.Node.{Node}
-use Rattle.module_check.specs.declared.tasks.Setting.{Setting}
+use Rattle.module_check.specs.declared.tasks.Facts.{Facts}
 use Rattle.module_check.specs.declared.tasks.Task.{Task}
 use Rattle.module_check.specs.declared.tasks.Walk.{Walk}
 use Rattle.module_check.specs.Nodes.{Sees, SeesUnsafe, Grown}
@@ -27,7 +27,7 @@ drop_all [] (suc i) l = refl
 drop_all (y ∷ ys) zero l = absurd (omega (arith, l))
 drop_all (y ∷ ys) (suc i) l = drop_all ys i (omega (arith, l))
 
-pub means_grown : (old new : List Node) (t : Setting) (s : Scope) → Grown old new → Means old t s → Means new t s
+pub means_grown : (old new : List Node) (t : Facts) (s : Scope) → Grown old new → Means old t s → Means new t s
 means_grown old new t s g h = record { known = sees_grown old new g t.known s.known h.known; dangers = unsafe_grown old new g t.dangers s.dangers h.dangers; guarded = h.guarded }
 
 sizes_grown : (old new : List Node) (k : ℕ) (s : Scope) (y : Part) → Grown old new → SeesSizes old k s y → SeesSizes new k s y
@@ -39,7 +39,7 @@ sizes_grown old new k s (ASegment side.Match last sg) g h = sees_grown old new g
 sizes_grown old new k s (ASegment side.Generator last sg) g h = sees_grown old new g k (size_scope s).known h
 
 pub fits_grown : (old new : List Node) (t : Task) (d : Spot) → Grown old new → Fits old t d → Fits new t d
-fits_grown old new t d g h = record { part = h.part; means = means_grown old new t.setting d.scope g h.means; sizes = sizes_grown old new t.setting.sizes d.scope d.part g h.sizes }
+fits_grown old new t d g h = record { part = h.part; means = means_grown old new t.facts d.scope g h.means; sizes = sizes_grown old new t.facts.sizes d.scope d.part g h.sizes }
 
 take_grown : (old new : List Node) → Grown old new → (m : ℕ) → m ≤ length old → take m old ≡ take m new
 take_grown old new g m l = sym (take-append-le m old g.more l) ∙ ap (λ zs. take m zs) (sym g.is)
@@ -220,29 +220,29 @@ pub items_more : (front : List Item) (i : Item) (s : Scope) → past_items (i �
 items_more [] i s = refl
 items_more (j ∷ front) i s = items_more front i (past_items (j ∷ []) s)
 
-pub means_same : (nodes : List Node) (t : Setting) (s u : Scope) → s ≡ u → Means nodes t s → Means nodes t u
+pub means_same : (nodes : List Node) (t : Facts) (s u : Scope) → s ≡ u → Means nodes t s → Means nodes t u
 means_same nodes t s u e h = let P : Scope → Type 0 = λ z. Means nodes t z in subst P e h
 
--- the settings of some scopes
-pub means_behind : (nodes more : List Node) (t : Setting) (k : ℕ) (ns : List (List ℕ)) (e : Expr) → ns ≡ (vars_of e).left_unsafe → Grown nodes more
+-- the facts of some scopes
+pub means_behind : (nodes more : List Node) (t : Facts) (k : ℕ) (ns : List (List ℕ)) (e : Expr) → ns ≡ (vars_of e).left_unsafe → Grown nodes more
     → ((ds : List Danger) (bs : List Bound) → SeesUnsafe nodes t.dangers ds → Sees nodes t.known bs → SeesUnsafe more k (ds ++ record { left_unsafe = ns; known = bs } ∷ []))
     → (s : Scope) → Means nodes t s → Means more (record t { dangers = k }) (behind (e ∷ []) s)
 means_behind nodes more t k ns e i g put s h =
     let P : List (List ℕ) → Type 0 = λ zs. SeesUnsafe more k (s.dangers ++ record { left_unsafe = zs; known = s.known } ∷ []) in
     record { known = sees_grown nodes more g t.known s.known h.known; dangers = subst P i (put s.dangers s.known h.dangers h.known); guarded = h.guarded }
 
-pub means_known : (nodes more : List Node) (t : Setting) (k : ℕ) (bs cs : List Bound) → bs ≡ cs → Grown nodes more → ((ks : List Bound) → Sees nodes t.known ks → Sees more k (ks ++ bs)) → (s : Scope) → Means nodes t s → Means more (record t { known = k }) (with_known cs s)
+pub means_known : (nodes more : List Node) (t : Facts) (k : ℕ) (bs cs : List Bound) → bs ≡ cs → Grown nodes more → ((ks : List Bound) → Sees nodes t.known ks → Sees more k (ks ++ bs)) → (s : Scope) → Means nodes t s → Means more (record t { known = k }) (with_known cs s)
 means_known nodes more t k bs cs e g put s h =
     let P : List Bound → Type 0 = λ zs. Sees more k (s.known ++ zs) in
     record { known = subst P e (put s.known h.known); dangers = unsafe_grown nodes more g t.dangers s.dangers h.dangers; guarded = h.guarded }
 
-pub means_guard : (nodes : List Node) (t : Setting) (s : Scope) → Means nodes t s → Means nodes (record t { guarded = true }) (in_guard s)
+pub means_guard : (nodes : List Node) (t : Facts) (s : Scope) → Means nodes t s → Means nodes (record t { guarded = true }) (in_guard s)
 means_guard nodes t s h = record { known = h.known; dangers = h.dangers; guarded = refl }
 
-pub means_match : (nodes : List Node) (t : Setting) (s : Scope) → Means nodes t s → Means nodes (record t { sizes = t.known }) (to_match s)
+pub means_match : (nodes : List Node) (t : Facts) (s : Scope) → Means nodes t s → Means nodes (record t { sizes = t.known }) (to_match s)
 means_match nodes t s h = record { known = h.known; dangers = h.dangers; guarded = h.guarded }
 
-pub unmatched : (nodes : List Node) (t : Setting) (s : Scope) (bs : List Bound) → Means nodes t (with_known bs (to_match s)) → Means nodes t (with_known bs s)
+pub unmatched : (nodes : List Node) (t : Facts) (s : Scope) (bs : List Bound) → Means nodes t (with_known bs (to_match s)) → Means nodes t (with_known bs s)
 unmatched nodes t s bs h = record { known = h.known; dangers = h.dangers; guarded = h.guarded }
 
 pub rev_left : {X : Type 0} (xs : List X) (i j : ℕ) (one : X) → j ≡ i + 1 → i < length xs → one ≡ get_or xs i one → reverse (take j xs) ≡ one ∷ reverse (take i xs)
@@ -272,19 +272,19 @@ module _ {X : Type 0} (At : List X → X → List X → List Spot) (xs : List X)
 pub back_targets : (ps : List Pattern) (i j : ℕ) (pt : Pattern) (s : Scope) → j ≡ i + 1 → i < length ps → pt ≡ get_or ps i pt → with_known (targets pt) (with_known (targets_of (reverse (drop j ps))) s) ≡ with_known (targets_of (reverse (drop i ps))) s
 back_targets ps i j pt s k l e = past_more s (reverse (drop j ps)) pt ∙ ap (λ zs. with_known (targets_of zs) s) (sym (rev_passed ps i j pt k l e))
 
-pub means_item : (nodes : List Node) (known rest : Setting) (s : Scope) (i : Item) → Means nodes known (with_known (targets_of (reverse i.patterns)) s) → Means nodes rest (behind (i.value ∷ []) s) → Means nodes (record rest { known = known.known }) (past_items (i ∷ []) s)
+pub means_item : (nodes : List Node) (known rest : Facts) (s : Scope) (i : Item) → Means nodes known (with_known (targets_of (reverse i.patterns)) s) → Means nodes rest (behind (i.value ∷ []) s) → Means nodes (record rest { known = known.known }) (past_items (i ∷ []) s)
 means_item nodes known rest s i h k = record { known = h.known; dangers = k.dangers; guarded = k.guarded }
 
 pub sees_at : (nodes : List Node) (j k : ℕ) (bs : List Bound) → j ≡ k → Sees nodes k bs → Sees nodes j bs
 sees_at nodes j k bs e h = let P : ℕ → Type 0 = λ n. Sees nodes n bs in subst P (sym e) h
 
-pub means_front : {X : Type 0} (nodes : List Node) (t : Setting) (F : List X → Scope) (xs ys : List X) → xs ≡ ys → Means nodes t (F xs) → Means nodes t (F ys)
+pub means_front : {X : Type 0} (nodes : List Node) (t : Facts) (F : List X → Scope) (xs ys : List X) → xs ≡ ys → Means nodes t (F xs) → Means nodes t (F ys)
 means_front {X} nodes t F xs ys e h = let P : List X → Type 0 = λ zs. Means nodes t (F zs) in subst P e h
 
-pub back_none : (nodes : List Node) (t : Setting) (ps : List Pattern) (j : ℕ) (s : Scope) → j ≡ length ps → Means nodes t s → Means nodes t (with_known (targets_of (reverse (drop j ps))) s)
+pub back_none : (nodes : List Node) (t : Facts) (ps : List Pattern) (j : ℕ) (s : Scope) → j ≡ length ps → Means nodes t s → Means nodes t (with_known (targets_of (reverse (drop j ps))) s)
 back_none nodes t ps j s e h =
     let P : List Pattern → Type 0 = λ zs. Means nodes t (with_known (targets_of (reverse zs)) s) in
     subst P (sym (drop_all ps j (omega arith))) (means_same nodes t s (with_known [] s) (sym (with_none s)) h)
 
-pub back_done : (nodes : List Node) (t : Setting) (ps : List Pattern) (j : ℕ) (s : Scope) → j ≡ 0 → Means nodes t (with_known (targets_of (reverse (drop j ps))) s) → Means nodes t (with_known (targets_of (reverse ps)) s)
+pub back_done : (nodes : List Node) (t : Facts) (ps : List Pattern) (j : ℕ) (s : Scope) → j ≡ 0 → Means nodes t (with_known (targets_of (reverse (drop j ps))) s) → Means nodes t (with_known (targets_of (reverse ps)) s)
 back_done nodes t ps j s e h = let P : ℕ → Type 0 = λ n. Means nodes t (with_known (targets_of (reverse (drop n ps))) s) in subst P e h

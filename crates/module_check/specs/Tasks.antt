@@ -17,7 +17,7 @@ use Rattle.erl_syntax.specs.declared.typing.SideUse.TheVariants as side
 use Rattle.module_check.specs.declared.trees.Node.{Node}
 use Rattle.module_check.specs.declared.tasks.Part.{Part}
 use Rattle.module_check.specs.declared.tasks.Part.TheVariants as t
-use Rattle.module_check.specs.declared.tasks.Setting.{Setting}
+use Rattle.module_check.specs.declared.tasks.Facts.{Facts}
 use Rattle.module_check.specs.declared.tasks.Task.{Task}
 use Rattle.module_check.specs.declared.tasks.Walk.{Walk}
 use Rattle.module_check.specs.Nodes.{Sees, SeesUnsafe, Grown}
@@ -29,11 +29,11 @@ part_of (t.Pattern pt) = APattern pt.now
 part_of (t.Body is) = ABody is.now
 part_of (t.Segment on last sg) = ASegment on last sg.now
 
--- the setting stands for the scope
-pub record Means (nodes : List Node) (setting : Setting) (s : Scope) : Type 0 where
-  pub known : Sees nodes setting.known s.known
-  pub dangers : SeesUnsafe nodes setting.dangers s.dangers
-  pub guarded : setting.guarded ≡ s.guarded
+-- the facts stands for the scope
+pub record Means (nodes : List Node) (facts : Facts) (s : Scope) : Type 0 where
+  pub known : Sees nodes facts.known s.known
+  pub dangers : SeesUnsafe nodes facts.dangers s.dangers
+  pub guarded : facts.guarded ≡ s.guarded
 
 -- what the sizes in a part of a pattern see
 abbrev pub SeesSizes : List Node → ℕ → Scope → Scopes.Part → Type 0
@@ -46,8 +46,8 @@ SeesSizes nodes last s (ASegment side.Generator at_end sg) = Sees nodes last (si
 
 pub record Fits (nodes : List Node) (task : Task) (d : Spot) : Type 0 where
   pub part : part_of task.part ≡ d.part
-  pub means : Means nodes task.setting d.scope
-  pub sizes : SeesSizes nodes task.setting.sizes d.scope d.part
+  pub means : Means nodes task.facts d.scope
+  pub sizes : SeesSizes nodes task.facts.sizes d.scope d.part
 
 -- what a task is to look at: a spot, and whether what stands inside it too
 pub record Look : Type 0 where
@@ -99,10 +99,10 @@ pub record AddsAlone (old new : Walk) (d : Spot) : Type 0 where
 abbrev pub passed : List Bound → Scope → Scope
 passed bs s = record s { known = s.known ++ bs; left = bs }
 
--- the setting stands for the scope, and what it says of sizes is what a size sees there
-pub record Passes (nodes : List Node) (setting : Setting) (s : Scope) : Type 0 where
-  pub means : Means nodes setting s
-  pub sizes : Sees nodes setting.sizes (size_scope s).known
+-- the facts stands for the scope, and what it says of sizes is what a size sees there
+pub record Passes (nodes : List Node) (facts : Facts) (s : Scope) : Type 0 where
+  pub means : Means nodes facts s
+  pub sizes : Sees nodes facts.sizes (size_scope s).known
 
 -- where the new variables of a qualifier hide others
 abbrev pub with_new : Qual → Scope → Scope

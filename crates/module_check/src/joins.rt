@@ -13,26 +13,26 @@ ghost use Rattle.module_check.specs.Unsafe.{items_unsafe, alt_unsafe, alts_unsaf
 
 use crate::scopes::{Target, endanger};
 use crate::targets::{add_alt, add_alt_bound, add_alts, add_body, add_bound, add_branches};
-use crate::tasks::{Setting, Walk};
+use crate::tasks::{Facts, Walk};
 use erl_syntax::{Alt, Branch, Item};
 use std::alloc::AllocError;
 
 impl<'a> Walk<'a> {
-    /// The setting where these names are unsafe too, where they are not known.
+    /// The facts where these names are unsafe too, where they are not known.
     fn join(
         &mut self,
-        setting: Setting,
+        facts: Facts,
         dangers: usize,
         found: &[Target<'a>],
-    ) -> Result<Setting, AllocError>
-        ensures { IfOk result (λ new. Adds self.old self.new [] × ((new.known ≡ setting.known) × ((new.guarded ≡ setting.guarded) × ((ds : List Danger) (bs : List Bound) → SeesUnsafe self.old.nodes.items dangers ds → Sees self.old.nodes.items setting.known bs → SeesUnsafe self.new.nodes.items new.dangers (ds ++ record { left_unsafe = names (bounds_of found.now); known = bs } ∷ []))))) }
+    ) -> Result<Facts, AllocError>
+        ensures { IfOk result (λ new. Adds self.old self.new [] × ((new.known ≡ facts.known) × ((new.guarded ≡ facts.guarded) × ((ds : List Danger) (bs : List Bound) → SeesUnsafe self.old.nodes.items dangers ds → Sees self.old.nodes.items facts.known bs → SeesUnsafe self.new.nodes.items new.dangers (ds ++ record { left_unsafe = names (bounds_of found.now); known = bs } ∷ []))))) }
     {
-        let dangers = endanger(&mut self.nodes, dangers, setting.known, found)?;
-        Ok(Setting { dangers, ..setting })
+        let dangers = endanger(&mut self.nodes, dangers, facts.known, found)?;
+        Ok(Facts { dangers, ..facts })
     }
 
     /// A clause of a `case` or a `receive` is put to those before it.
-    fn put_alt(&mut self, joined: Setting, alt: &'a Alt) -> Result<Setting, AllocError>
+    fn put_alt(&mut self, joined: Facts, alt: &'a Alt) -> Result<Facts, AllocError>
         ensures { IfOk result (λ new. Adds self.old self.new [] × ((s : Scope) (before : List (List ℕ)) → Means self.old.nodes.items joined (left_behind before s) → Means self.new.nodes.items new (left_behind (before ++ alt_unsafe alt.now) s))) }
     {
         let mut found = Vec::new(self.alloc);
@@ -43,11 +43,11 @@ impl<'a> Walk<'a> {
     /// Those before it are put to what is unsafe at its end.
     fn put_alts(
         &mut self,
-        joined: Setting,
-        after: Setting,
+        joined: Facts,
+        after: Facts,
         before: &'a [Alt],
         alt: &'a Alt,
-    ) -> Result<Setting, AllocError>
+    ) -> Result<Facts, AllocError>
         ensures { IfOk result (λ new. Adds self.old self.new [] × ((s : Scope) → Means self.old.nodes.items joined (left_behind (alts_unsafe before.now) s) → Means self.old.nodes.items after (past_alt (out-Alt alt.now) s) → Means self.new.nodes.items new (left_behind (alts_unsafe before.now ++ alt_unsafe alt.now) s))) }
     {
         let mut found = Vec::new(self.alloc);
@@ -60,12 +60,12 @@ impl<'a> Walk<'a> {
     /// this one.
     pub(crate) fn join_alt(
         &mut self,
-        joined: Setting,
-        after: Setting,
+        joined: Facts,
+        after: Facts,
         larger: bool,
         before: &'a [Alt],
         alt: &'a Alt,
-    ) -> Result<Setting, AllocError>
+    ) -> Result<Facts, AllocError>
         ensures { IfOk result (λ new. Adds self.old self.new [] × ((s : Scope) → Means self.old.nodes.items joined (left_behind (alts_unsafe before.now) s) → Means self.old.nodes.items after (past_alt (out-Alt alt.now) s) → Means self.new.nodes.items new (left_behind (alts_unsafe before.now ++ alt_unsafe alt.now) s))) }
     {
         if larger {
@@ -76,7 +76,7 @@ impl<'a> Walk<'a> {
     }
 
     /// The body of a clause of an `if` is put to the clauses before it.
-    fn put_body(&mut self, joined: Setting, items: &'a [Item]) -> Result<Setting, AllocError>
+    fn put_body(&mut self, joined: Facts, items: &'a [Item]) -> Result<Facts, AllocError>
         ensures { IfOk result (λ new. Adds self.old self.new [] × ((s : Scope) (before : List (List ℕ)) → Means self.old.nodes.items joined (left_behind before s) → Means self.new.nodes.items new (left_behind (before ++ items_unsafe items.now) s))) }
     {
         let mut found = Vec::new(self.alloc);
@@ -87,11 +87,11 @@ impl<'a> Walk<'a> {
     /// The clauses before it are put to what is unsafe at its end.
     fn put_branches(
         &mut self,
-        joined: Setting,
-        after: Setting,
+        joined: Facts,
+        after: Facts,
         before: &'a [Branch],
         items: &'a [Item],
-    ) -> Result<Setting, AllocError>
+    ) -> Result<Facts, AllocError>
         ensures { IfOk result (λ new. Adds self.old self.new [] × ((s : Scope) → Means self.old.nodes.items joined (left_behind (branches_unsafe before.now) s) → Means self.old.nodes.items after (past_items items.now s) → Means self.new.nodes.items new (left_behind (branches_unsafe before.now ++ items_unsafe items.now) s))) }
     {
         let mut found = Vec::new(self.alloc);
@@ -103,12 +103,12 @@ impl<'a> Walk<'a> {
     /// The same as `join_alt` of the clauses of an `if`, this one with this body.
     pub(crate) fn join_branch(
         &mut self,
-        joined: Setting,
-        after: Setting,
+        joined: Facts,
+        after: Facts,
         larger: bool,
         before: &'a [Branch],
         items: &'a [Item],
-    ) -> Result<Setting, AllocError>
+    ) -> Result<Facts, AllocError>
         ensures { IfOk result (λ new. Adds self.old self.new [] × ((s : Scope) → Means self.old.nodes.items joined (left_behind (branches_unsafe before.now) s) → Means self.old.nodes.items after (past_items items.now s) → Means self.new.nodes.items new (left_behind (branches_unsafe before.now ++ items_unsafe items.now) s))) }
     {
         if larger {

@@ -14,7 +14,7 @@ ghost use Rattle.module_check.specs.Faults.{UnsafeFault, ReadFault, ExprFault, P
 use crate::calls::call_fault;
 use crate::index::Indexed;
 use crate::order::{fault_if, first_of};
-use crate::tasks::{Part, Setting, Task};
+use crate::tasks::{Facts, Part, Task};
 use crate::trees::{Node, find};
 use erl_syntax::{CheckCause, CheckFault, Expr, Pattern, Segment, SideUse, Span};
 use segment_type::type_segment;
@@ -41,24 +41,24 @@ fn is_neither(first: bool, second: bool) -> bool
 }
 
 /// That a variable that is read is unbound or unsafe.
-fn read_fault(nodes: &[Node], setting: Setting, at: Span, name: &[u8]) -> Option<CheckFault>
-    ensures { (s : Scope) → Means nodes.now setting s → IsLeast (ReadFault s at name.now) result }
+fn read_fault(nodes: &[Node], facts: Facts, at: Span, name: &[u8]) -> Option<CheckFault>
+    ensures { (s : Scope) → Means nodes.now facts s → IsLeast (ReadFault s at name.now) result }
 {
-    let known = is_put(nodes, setting.known, name);
-    let endangered = is_put(nodes, setting.dangers, name);
+    let known = is_put(nodes, facts.known, name);
+    let endangered = is_put(nodes, facts.dangers, name);
     let unbound = fault_if(
         is_neither(known, endangered),
         at,
         CheckCause::UnboundVariable,
     );
-    first_of(unbound, unsafe_fault(nodes, setting.dangers, at, name))
+    first_of(unbound, unsafe_fault(nodes, facts.dangers, at, name))
 }
 
-fn expr_fault(tree: &Indexed, nodes: &[Node], setting: Setting, expr: &Expr) -> Option<CheckFault>
-    ensures { (s : Scope) → Means nodes.now setting s → IsLeast (ExprFault tree.now s (out-Expr expr.now)) result }
+fn expr_fault(tree: &Indexed, nodes: &[Node], facts: Facts, expr: &Expr) -> Option<CheckFault>
+    ensures { (s : Scope) → Means nodes.now facts s → IsLeast (ExprFault tree.now s (out-Expr expr.now)) result }
 {
     match expr {
-        Expr::Var { at, name } => read_fault(nodes, setting, *at, name.bytes()),
+        Expr::Var { at, name } => read_fault(nodes, facts, *at, name.bytes()),
         Expr::Call {
             at,
             module,
@@ -66,27 +66,27 @@ fn expr_fault(tree: &Indexed, nodes: &[Node], setting: Setting, expr: &Expr) -> 
             args,
         } => {
             let arity = args.items().len();
-            call_fault(tree, setting.guarded, *at, module.items(), *name, arity)
+            call_fault(tree, facts.guarded, *at, module.items(), *name, arity)
         }
         _ => None,
     }
 }
 
-fn pattern_fault(nodes: &[Node], setting: Setting, pattern: &Pattern) -> Option<CheckFault>
-    ensures { (s : Scope) → Means nodes.now setting s → IsLeast (PatternFault s (out-Pattern pattern.now)) result }
+fn pattern_fault(nodes: &[Node], facts: Facts, pattern: &Pattern) -> Option<CheckFault>
+    ensures { (s : Scope) → Means nodes.now facts s → IsLeast (PatternFault s (out-Pattern pattern.now)) result }
 {
     match pattern {
-        Pattern::Var { at, name } => unsafe_fault(nodes, setting.dangers, *at, name.bytes()),
+        Pattern::Var { at, name } => unsafe_fault(nodes, facts.dangers, *at, name.bytes()),
         _ => None,
     }
 }
 
 /// That the variable of a pattern's segment is unsafe.
-fn target_fault(nodes: &[Node], setting: Setting, value: &Expr) -> Option<CheckFault>
-    ensures { (s : Scope) → Means nodes.now setting s → IsLeast (TargetFault s (out-Expr value.now)) result }
+fn target_fault(nodes: &[Node], facts: Facts, value: &Expr) -> Option<CheckFault>
+    ensures { (s : Scope) → Means nodes.now facts s → IsLeast (TargetFault s (out-Expr value.now)) result }
 {
     match value {
-        Expr::Var { at, name } => unsafe_fault(nodes, setting.dangers, *at, name.bytes()),
+        Expr::Var { at, name } => unsafe_fault(nodes, facts.dangers, *at, name.bytes()),
         _ => None,
     }
 }
@@ -106,18 +106,18 @@ fn type_fault(side: SideUse, last: bool, segment: &Segment) -> Option<CheckFault
 
 fn segment_fault(
     nodes: &[Node],
-    setting: Setting,
+    facts: Facts,
     side: SideUse,
     last: bool,
     segment: &Segment,
 ) -> Option<CheckFault>
-    ensures { (s : Scope) → Means nodes.now setting s → IsLeast (SegmentFault s side last segment.now) result }
+    ensures { (s : Scope) → Means nodes.now facts s → IsLeast (SegmentFault s side last segment.now) result }
 {
     let untyped = type_fault(side, last, segment);
     match side {
         SideUse::Build => untyped,
-        SideUse::Match => first_of(untyped, target_fault(nodes, setting, &segment.value)),
-        SideUse::Generator => first_of(untyped, target_fault(nodes, setting, &segment.value)),
+        SideUse::Match => first_of(untyped, target_fault(nodes, facts, &segment.value)),
+        SideUse::Generator => first_of(untyped, target_fault(nodes, facts, &segment.value)),
     }
 }
 
@@ -125,11 +125,11 @@ fn segment_fault(
 pub(crate) fn own_fault(tree: &Indexed, nodes: &[Node], task: Task) -> Option<CheckFault>
     ensures { (d : Spot) → Fits nodes.now task.entry d → IsLeast (Own tree.now d.scope d.part) result }
 {
-    let setting = task.setting;
+    let facts = task.facts;
     match task.part {
-        Part::Expr(expr) => expr_fault(tree, nodes, setting, expr),
-        Part::Pattern(pattern) => pattern_fault(nodes, setting, pattern),
+        Part::Expr(expr) => expr_fault(tree, nodes, facts, expr),
+        Part::Pattern(pattern) => pattern_fault(nodes, facts, pattern),
         Part::Body(_) => None,
-        Part::Segment(side, last, segment) => segment_fault(nodes, setting, side, last, segment),
+        Part::Segment(side, last, segment) => segment_fault(nodes, facts, side, last, segment),
     }
 }

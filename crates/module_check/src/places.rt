@@ -11,7 +11,7 @@ ghost use Rattle.module_check.specs.Spots.{Spot};
 ghost use Rattle.module_check.specs.Tasks.{Means, Fits};
 ghost use Rattle.module_check.specs.Places.{seen, IsOnly, Reads, Meets, ExprPlace, PatternPlace, ValuePlace, SegmentPlace, OwnPlace, InnerPlace, AreAll};
 
-use crate::tasks::{Part, Setting, Task, Walk};
+use crate::tasks::{Facts, Part, Task, Walk};
 use crate::trees::{Node, find};
 use erl_syntax::{Expr, Function, Pattern, Segment, SideUse, Span};
 use std::alloc::{AllocError, Global};
@@ -65,46 +65,46 @@ fn met(nodes: &[Node], known: usize, at: Span, name: &[u8]) -> Option<Occurrence
     }
 }
 
-fn expr_place(nodes: &[Node], setting: Setting, expr: &Expr) -> Option<Occurrence>
-    ensures { (s : Scope) → Means nodes.now setting s → IsOnly (ExprPlace s (out-Expr expr.now)) result }
+fn expr_place(nodes: &[Node], facts: Facts, expr: &Expr) -> Option<Occurrence>
+    ensures { (s : Scope) → Means nodes.now facts s → IsOnly (ExprPlace s (out-Expr expr.now)) result }
 {
     match expr {
-        Expr::Var { at, name } => read(nodes, setting.known, *at, name.bytes()),
+        Expr::Var { at, name } => read(nodes, facts.known, *at, name.bytes()),
         _ => None,
     }
 }
 
-fn pattern_place(nodes: &[Node], setting: Setting, pattern: &Pattern) -> Option<Occurrence>
-    ensures { (s : Scope) → Means nodes.now setting s → IsOnly (PatternPlace s (out-Pattern pattern.now)) result }
+fn pattern_place(nodes: &[Node], facts: Facts, pattern: &Pattern) -> Option<Occurrence>
+    ensures { (s : Scope) → Means nodes.now facts s → IsOnly (PatternPlace s (out-Pattern pattern.now)) result }
 {
     match pattern {
-        Pattern::Var { at, name } => met(nodes, setting.known, *at, name.bytes()),
+        Pattern::Var { at, name } => met(nodes, facts.known, *at, name.bytes()),
         _ => None,
     }
 }
 
 /// The variable that is the value of a pattern's segment.
-fn value_place(nodes: &[Node], setting: Setting, value: &Expr) -> Option<Occurrence>
-    ensures { (s : Scope) → Means nodes.now setting s → IsOnly (ValuePlace s (out-Expr value.now)) result }
+fn value_place(nodes: &[Node], facts: Facts, value: &Expr) -> Option<Occurrence>
+    ensures { (s : Scope) → Means nodes.now facts s → IsOnly (ValuePlace s (out-Expr value.now)) result }
 {
     match value {
-        Expr::Var { at, name } => met(nodes, setting.known, *at, name.bytes()),
+        Expr::Var { at, name } => met(nodes, facts.known, *at, name.bytes()),
         _ => None,
     }
 }
 
 fn segment_place(
     nodes: &[Node],
-    setting: Setting,
+    facts: Facts,
     side: SideUse,
     segment: &Segment,
 ) -> Option<Occurrence>
-    ensures { (s : Scope) → Means nodes.now setting s → IsOnly (SegmentPlace s side segment.now) result }
+    ensures { (s : Scope) → Means nodes.now facts s → IsOnly (SegmentPlace s side segment.now) result }
 {
     match side {
         SideUse::Build => None,
-        SideUse::Match => value_place(nodes, setting, &segment.value),
-        SideUse::Generator => value_place(nodes, setting, &segment.value),
+        SideUse::Match => value_place(nodes, facts, &segment.value),
+        SideUse::Generator => value_place(nodes, facts, &segment.value),
     }
 }
 
@@ -112,12 +112,12 @@ fn segment_place(
 fn own_place(nodes: &[Node], task: Task) -> Option<Occurrence>
     ensures { (d : Spot) → Fits nodes.now task.entry d → IsOnly (OwnPlace d.scope d.part) result }
 {
-    let setting = task.setting;
+    let facts = task.facts;
     match task.part {
-        Part::Expr(expr) => expr_place(nodes, setting, expr),
-        Part::Pattern(pattern) => pattern_place(nodes, setting, pattern),
+        Part::Expr(expr) => expr_place(nodes, facts, expr),
+        Part::Pattern(pattern) => pattern_place(nodes, facts, pattern),
         Part::Body(_) => None,
-        Part::Segment(side, _, segment) => segment_place(nodes, setting, side, segment),
+        Part::Segment(side, _, segment) => segment_place(nodes, facts, side, segment),
     }
 }
 

@@ -36,7 +36,7 @@ pub(crate) enum Part<'a> {
 /// What is known where a part stands: the nodes of the variables with values, of those that the sizes in a pattern see, and of
 /// the unsafe ones, and whether it is a guard or a size.
 #[derive(Clone, Copy)]
-pub(crate) struct Setting {
+pub(crate) struct Facts {
     pub known: usize,
     pub sizes: usize,
     pub dangers: usize,
@@ -45,7 +45,7 @@ pub(crate) struct Setting {
 
 #[derive(Clone, Copy)]
 pub(crate) struct Task<'a> {
-    pub setting: Setting,
+    pub facts: Facts,
     pub part: Part<'a>,
     /// How many nodes there were when the task was added: it needs none of those that are added later.
     pub mark: usize,
@@ -62,13 +62,13 @@ pub(crate) struct Walk<'a> {
 }
 
 impl<'a> Walk<'a> {
-    fn add(&mut self, setting: Setting, part: Part<'a>, whole: bool) -> Result<(), AllocError>
-        ensures { IfOk result (λ u. (self.new.nodes.items ≡ self.old.nodes.items) × (self.new.tasks.items ≡ self.old.tasks.items ++ record { setting = setting; part = part.entry; mark = length self.old.nodes.items; whole = whole } ∷ [])) }
+    fn add(&mut self, facts: Facts, part: Part<'a>, whole: bool) -> Result<(), AllocError>
+        ensures { IfOk result (λ u. (self.new.nodes.items ≡ self.old.nodes.items) × (self.new.tasks.items ≡ self.old.tasks.items ++ record { facts = facts; part = part.entry; mark = length self.old.nodes.items; whole = whole } ∷ [])) }
     {
         let mark = self.nodes.len();
         Ok(
             self.tasks.push(Task {
-                setting,
+                facts,
                 part,
                 mark,
                 whole,
@@ -77,56 +77,56 @@ impl<'a> Walk<'a> {
     }
 
     /// Adds a part with all that stands inside it.
-    fn push(&mut self, setting: Setting, part: Part<'a>) -> Result<(), AllocError>
-        ensures { IfOk result (λ u. (d : Spot) → Fits self.old.nodes.items (record { setting = setting; part = part.entry; mark = length self.old.nodes.items; whole = true }) d → Adds self.old self.new (d ∷ [])) }
+    fn push(&mut self, facts: Facts, part: Part<'a>) -> Result<(), AllocError>
+        ensures { IfOk result (λ u. (d : Spot) → Fits self.old.nodes.items (record { facts = facts; part = part.entry; mark = length self.old.nodes.items; whole = true }) d → Adds self.old self.new (d ∷ [])) }
     {
-        self.add(setting, part, true)
+        self.add(facts, part, true)
     }
 
     /// Adds a part by itself.
-    fn push_alone(&mut self, setting: Setting, part: Part<'a>) -> Result<(), AllocError>
-        ensures { IfOk result (λ u. (d : Spot) → Fits self.old.nodes.items (record { setting = setting; part = part.entry; mark = length self.old.nodes.items; whole = false }) d → AddsAlone self.old self.new d) }
+    fn push_alone(&mut self, facts: Facts, part: Part<'a>) -> Result<(), AllocError>
+        ensures { IfOk result (λ u. (d : Spot) → Fits self.old.nodes.items (record { facts = facts; part = part.entry; mark = length self.old.nodes.items; whole = false }) d → AddsAlone self.old self.new d) }
     {
-        self.add(setting, part, false)
+        self.add(facts, part, false)
     }
 
-    /// The setting behind an expression.
-    fn behind(&mut self, setting: Setting, expr: &'a Expr) -> Result<Setting, AllocError>
-        ensures { IfOk result (λ after. Adds self.old self.new [] × ((s : Scope) → Means self.old.nodes.items setting s → Means self.new.nodes.items after (behind (expr.now ∷ []) s))) }
+    /// The facts behind an expression.
+    fn behind(&mut self, facts: Facts, expr: &'a Expr) -> Result<Facts, AllocError>
+        ensures { IfOk result (λ after. Adds self.old self.new [] × ((s : Scope) → Means self.old.nodes.items facts s → Means self.new.nodes.items after (behind (expr.now ∷ []) s))) }
     {
         let mut found = Vec::new(self.alloc);
         add_unsafe(&mut found, expr)?;
-        let dangers = endanger(&mut self.nodes, setting.dangers, setting.known, &found)?;
-        Ok(Setting { dangers, ..setting })
+        let dangers = endanger(&mut self.nodes, facts.dangers, facts.known, &found)?;
+        Ok(Facts { dangers, ..facts })
     }
 
-    /// The setting where the variables of a pattern have values too.
-    fn know(&mut self, setting: Setting, pattern: &'a Pattern) -> Result<Setting, AllocError>
-        ensures { IfOk result (λ after. (s : Scope) → Means self.old.nodes.items setting s → Adds self.old self.new [] × (Means self.new.nodes.items after (with_known (targets pattern.now) s) × (after.sizes ≡ setting.sizes))) }
+    /// The facts where the variables of a pattern have values too.
+    fn know(&mut self, facts: Facts, pattern: &'a Pattern) -> Result<Facts, AllocError>
+        ensures { IfOk result (λ after. (s : Scope) → Means self.old.nodes.items facts s → Adds self.old self.new [] × (Means self.new.nodes.items after (with_known (targets pattern.now) s) × (after.sizes ≡ facts.sizes))) }
     {
         let mut found = Vec::new(self.alloc);
         add_targets(&mut found, pattern)?;
-        let known = append_all(&mut self.nodes, setting.known, &found)?;
-        Ok(Setting { known, ..setting })
+        let known = append_all(&mut self.nodes, facts.known, &found)?;
+        Ok(Facts { known, ..facts })
     }
 
-    /// Expressions in one setting.
-    fn push_same(&mut self, setting: Setting, exprs: &'a [Expr]) -> Result<(), AllocError>
-        ensures { IfOk result (λ u. (s : Scope) → Means self.old.nodes.items setting s → Adds self.old self.new (each (same_in s) [] exprs.now)) }
+    /// Expressions in one facts.
+    fn push_same(&mut self, facts: Facts, exprs: &'a [Expr]) -> Result<(), AllocError>
+        ensures { IfOk result (λ u. (s : Scope) → Means self.old.nodes.items facts s → Adds self.old self.new (each (same_in s) [] exprs.now)) }
     {
         for expr in exprs {
-            self.push(setting, Part::Expr(expr))?;
+            self.push(facts, Part::Expr(expr))?;
         }
         Ok(())
     }
 
     /// A guard.
-    fn push_guard(&mut self, setting: Setting, guard: &'a Guard) -> Result<(), AllocError>
-        ensures { IfOk result (λ u. (s : Scope) → Means self.old.nodes.items setting s → Adds self.old self.new (guard_in (in_guard s) guard.now)) }
+    fn push_guard(&mut self, facts: Facts, guard: &'a Guard) -> Result<(), AllocError>
+        ensures { IfOk result (λ u. (s : Scope) → Means self.old.nodes.items facts s → Adds self.old self.new (guard_in (in_guard s) guard.now)) }
     {
-        let guarded = Setting {
+        let guarded = Facts {
             guarded: true,
-            ..setting
+            ..facts
         };
         let alternatives = guard.alternatives.items();
         for tests in alternatives {
@@ -135,20 +135,16 @@ impl<'a> Walk<'a> {
         Ok(())
     }
 
-    /// The patterns of an item, the last first, and the setting behind them.
-    fn push_matched(
-        &mut self,
-        setting: Setting,
-        patterns: &'a [Pattern],
-    ) -> Result<Setting, AllocError>
-        ensures { IfOk result (λ after. (s : Scope) → Means self.old.nodes.items setting s → Adds self.old self.new (each (matched_in s) [] (reverse patterns.now)) × Means self.new.nodes.items after (with_known (targets_of (reverse patterns.now)) s)) }
+    /// The patterns of an item, the last first, and the facts behind them.
+    fn push_matched(&mut self, facts: Facts, patterns: &'a [Pattern]) -> Result<Facts, AllocError>
+        ensures { IfOk result (λ after. (s : Scope) → Means self.old.nodes.items facts s → Adds self.old self.new (each (matched_in s) [] (reverse patterns.now)) × Means self.new.nodes.items after (with_known (targets_of (reverse patterns.now)) s)) }
     {
-        let mut after = setting;
+        let mut after = facts;
         let mut left = patterns.len();
         while left > 0 {
             left -= 1;
             let pattern = &patterns[left];
-            let matched = Setting {
+            let matched = Facts {
                 sizes: after.known,
                 ..after
             };
@@ -157,63 +153,55 @@ impl<'a> Walk<'a> {
         Ok(after)
     }
 
-    /// The setting behind a variable of a bit pattern.
-    fn pass_target(&mut self, setting: Setting, target: Target<'a>) -> Result<Setting, AllocError>
+    /// The facts behind a variable of a bit pattern.
+    fn pass_target(&mut self, facts: Facts, target: Target<'a>) -> Result<Facts, AllocError>
         ensures adds { IfOk result (λ after. Adds self.old self.new []) }
-        ensures means { IfOk result (λ after. (s : Scope) (bs : List Bound) → Passes self.old.nodes.items setting (passed bs s) → Passes self.new.nodes.items after (passed (bs ++ bound_of target.entry ∷ []) s)) }
+        ensures means { IfOk result (λ after. (s : Scope) (bs : List Bound) → Passes self.old.nodes.items facts (passed bs s) → Passes self.new.nodes.items after (passed (bs ++ bound_of target.entry ∷ []) s)) }
     {
-        let known = append(&mut self.nodes, setting.known, target)?;
+        let known = append(&mut self.nodes, facts.known, target)?;
         let Some(place) = find(&self.nodes, known, target.name) else {
-            return Ok(setting);
+            return Ok(facts);
         };
-        let sizes = put(&mut self.nodes, setting.sizes, target.name, place)?;
-        Ok(Setting {
+        let sizes = put(&mut self.nodes, facts.sizes, target.name, place)?;
+        Ok(Facts {
             known,
             sizes,
-            ..setting
+            ..facts
         })
     }
 
-    /// The setting behind these variables of a bit pattern.
-    fn pass_targets(
-        &mut self,
-        setting: Setting,
-        targets: &[Target<'a>],
-    ) -> Result<Setting, AllocError>
+    /// The facts behind these variables of a bit pattern.
+    fn pass_targets(&mut self, facts: Facts, targets: &[Target<'a>]) -> Result<Facts, AllocError>
         ensures adds { IfOk result (λ after. Adds self.old self.new []) }
-        ensures means { IfOk result (λ after. (s : Scope) (bs : List Bound) → Passes self.old.nodes.items setting (passed bs s) → Passes self.new.nodes.items after (passed (bs ++ bounds_of targets.now) s)) }
+        ensures means { IfOk result (λ after. (s : Scope) (bs : List Bound) → Passes self.old.nodes.items facts (passed bs s) → Passes self.new.nodes.items after (passed (bs ++ bounds_of targets.now) s)) }
     {
-        let mut after = setting;
+        let mut after = facts;
         for target in targets {
             after = self.pass_target(after, *target)?;
         }
         Ok(after)
     }
 
-    /// The setting behind a segment of a bit pattern.
-    fn pass_segment(
-        &mut self,
-        setting: Setting,
-        segment: &'a Segment,
-    ) -> Result<Setting, AllocError>
+    /// The facts behind a segment of a bit pattern.
+    fn pass_segment(&mut self, facts: Facts, segment: &'a Segment) -> Result<Facts, AllocError>
         ensures adds { IfOk result (λ after. Adds self.old self.new []) }
-        ensures means { IfOk result (λ after. (s : Scope) (front : List Segment) → Passes self.old.nodes.items setting (past_segments front s) → Passes self.new.nodes.items after (past_segments (front ++ segment.now ∷ []) s)) }
+        ensures means { IfOk result (λ after. (s : Scope) (front : List Segment) → Passes self.old.nodes.items facts (past_segments front s) → Passes self.new.nodes.items after (past_segments (front ++ segment.now ∷ []) s)) }
     {
         let mut found = Vec::new(self.alloc);
         add_segment_target(&mut found, segment)?;
-        self.pass_targets(setting, &found)
+        self.pass_targets(facts, &found)
     }
 
     /// The segments of a bit pattern.
     fn push_segments(
         &mut self,
         side: SideUse,
-        setting: Setting,
+        facts: Facts,
         segments: &'a [Segment],
     ) -> Result<(), AllocError>
-        ensures { IfOk result (λ u. (s : Scope) → Means self.old.nodes.items setting s → Sees self.old.nodes.items setting.sizes s.outer → Adds self.old self.new (each (segment_in side s) [] segments.now)) }
+        ensures { IfOk result (λ u. (s : Scope) → Means self.old.nodes.items facts s → Sees self.old.nodes.items facts.sizes s.outer → Adds self.old self.new (each (segment_in side s) [] segments.now)) }
     {
-        let mut after = setting;
+        let mut after = facts;
         for (index, segment) in segments.iter().enumerate() {
             let last = is_last(segments, index);
             self.push(after, Part::Segment(side, last, segment))?;
@@ -225,18 +213,18 @@ impl<'a> Walk<'a> {
     /// A generator over a list.
     fn push_generator(
         &mut self,
-        setting: Setting,
+        facts: Facts,
         source: &'a Expr,
         pattern: &'a Pattern,
     ) -> Result<(), AllocError>
-        ensures { IfOk result (λ u. (s : Scope) → Means self.old.nodes.items setting s → Adds self.old self.new (spot s (AnExpr source.now) ∷ spot (to_generate s) (APattern pattern.now) ∷ [])) }
+        ensures { IfOk result (λ u. (s : Scope) → Means self.old.nodes.items facts s → Adds self.old self.new (spot s (AnExpr source.now) ∷ spot (to_generate s) (APattern pattern.now) ∷ [])) }
     {
-        let generated = Setting {
+        let generated = Facts {
             known: 0,
-            sizes: setting.known,
-            ..setting
+            sizes: facts.known,
+            ..facts
         };
-        self.push(setting, Part::Expr(source))?;
+        self.push(facts, Part::Expr(source))?;
         self.push_pattern(generated, pattern)?;
         Ok(())
     }
@@ -244,70 +232,70 @@ impl<'a> Walk<'a> {
     /// A generator over bits.
     fn push_bit_generator(
         &mut self,
-        setting: Setting,
+        facts: Facts,
         source: &'a Expr,
         segments: &'a [Segment],
     ) -> Result<(), AllocError>
-        ensures { IfOk result (λ u. (s : Scope) → Means self.old.nodes.items setting s → Adds self.old self.new (spot s (AnExpr source.now) ∷ each (segment_in Generator (to_generate s)) [] segments.now)) }
+        ensures { IfOk result (λ u. (s : Scope) → Means self.old.nodes.items facts s → Adds self.old self.new (spot s (AnExpr source.now) ∷ each (segment_in Generator (to_generate s)) [] segments.now)) }
     {
-        let generated = Setting {
+        let generated = Facts {
             known: 0,
-            sizes: setting.known,
-            ..setting
+            sizes: facts.known,
+            ..facts
         };
-        self.push(setting, Part::Expr(source))?;
+        self.push(facts, Part::Expr(source))?;
         self.push_segments(SideUse::Generator, generated, segments)
     }
 
     /// A qualifier.
-    fn push_qual(&mut self, setting: Setting, qual: &'a Qual) -> Result<(), AllocError>
-        ensures { IfOk result (λ u. (s : Scope) → Means self.old.nodes.items setting s → Adds self.old self.new (qual_in s qual.now)) }
+    fn push_qual(&mut self, facts: Facts, qual: &'a Qual) -> Result<(), AllocError>
+        ensures { IfOk result (λ u. (s : Scope) → Means self.old.nodes.items facts s → Adds self.old self.new (qual_in s qual.now)) }
     {
         match qual {
             Qual::Items {
                 pattern,
                 source,
                 ..
-            } => self.push_generator(setting, source, pattern),
+            } => self.push_generator(facts, source, pattern),
             Qual::Bits {
                 segments,
                 source,
                 ..
-            } => self.push_bit_generator(setting, source, segments.items()),
-            Qual::Filter { test, .. } => self.push(setting, Part::Expr(test)),
+            } => self.push_bit_generator(facts, source, segments.items()),
+            Qual::Filter { test, .. } => self.push(facts, Part::Expr(test)),
         }
     }
 
-    /// The setting behind a qualifier.
-    fn past_qual(&mut self, setting: Setting, qual: &'a Qual) -> Result<Setting, AllocError>
+    /// The facts behind a qualifier.
+    fn past_qual(&mut self, facts: Facts, qual: &'a Qual) -> Result<Facts, AllocError>
         ensures adds { IfOk result (λ after. Adds self.old self.new []) }
-        ensures means { IfOk result (λ after. (s : Scope) → Means self.old.nodes.items setting s → Means self.new.nodes.items after (past_quals (qual.now ∷ []) s)) }
+        ensures means { IfOk result (λ after. (s : Scope) → Means self.old.nodes.items facts s → Means self.new.nodes.items after (past_quals (qual.now ∷ []) s)) }
     {
         let mut left = Vec::new(self.alloc);
         add_qual_unsafe(&mut left, qual)?;
-        let dangers = endanger(&mut self.nodes, setting.dangers, setting.known, &left)?;
-        let generated = self.generate(setting, qual)?;
-        Ok(Setting {
+        let dangers = endanger(&mut self.nodes, facts.dangers, facts.known, &left)?;
+        let generated = self.generate(facts, qual)?;
+        Ok(Facts {
             dangers,
             ..generated
         })
     }
 
-    /// The setting where the new variables of a qualifier hide others.
-    fn generate(&mut self, setting: Setting, qual: &'a Qual) -> Result<Setting, AllocError>
+    /// The facts where the new variables of a qualifier hide others.
+    fn generate(&mut self, facts: Facts, qual: &'a Qual) -> Result<Facts, AllocError>
         ensures adds { IfOk result (λ after. Adds self.old self.new []) }
-        ensures means { IfOk result (λ after. (s : Scope) → Means self.old.nodes.items setting s → Means self.new.nodes.items after (with_new qual.now s)) }
+        ensures means { IfOk result (λ after. (s : Scope) → Means self.old.nodes.items facts s → Means self.new.nodes.items after (with_new qual.now s)) }
     {
         let mut found = Vec::new(self.alloc);
         add_new(&mut found, qual)?;
-        let known = put_all(&mut self.nodes, setting.known, &found)?;
-        Ok(Setting { known, ..setting })
+        let known = put_all(&mut self.nodes, facts.known, &found)?;
+        Ok(Facts { known, ..facts })
     }
 
-    fn push_quals(&mut self, setting: Setting, quals: &'a [Qual]) -> Result<(), AllocError>
-        ensures { IfOk result (λ u. (s : Scope) → Means self.old.nodes.items setting s → Adds self.old self.new (each (quals_in s) [] quals.now)) }
+    fn push_quals(&mut self, facts: Facts, quals: &'a [Qual]) -> Result<(), AllocError>
+        ensures { IfOk result (λ u. (s : Scope) → Means self.old.nodes.items facts s → Adds self.old self.new (each (quals_in s) [] quals.now)) }
     {
-        let mut after = setting;
+        let mut after = facts;
         for qual in quals {
             self.push_qual(after, qual)?;
             after = self.past_qual(after, qual)?;
@@ -315,24 +303,24 @@ impl<'a> Walk<'a> {
         Ok(())
     }
 
-    /// The setting of a comprehension's row.
-    fn generate_all(&mut self, setting: Setting, quals: &'a [Qual]) -> Result<Setting, AllocError>
+    /// The facts of a comprehension's row.
+    fn generate_all(&mut self, facts: Facts, quals: &'a [Qual]) -> Result<Facts, AllocError>
         ensures adds { IfOk result (λ after. Adds self.old self.new []) }
-        ensures means { IfOk result (λ after. (s : Scope) → Means self.old.nodes.items setting s → Means self.new.nodes.items after (record s { known = generated quals.now s.known })) }
+        ensures means { IfOk result (λ after. (s : Scope) → Means self.old.nodes.items facts s → Means self.new.nodes.items after (record s { known = generated quals.now s.known })) }
     {
-        let mut after = setting;
+        let mut after = facts;
         for qual in quals {
             after = self.generate(after, qual)?;
         }
         Ok(after)
     }
 
-    /// The setting behind expressions.
-    fn behind_all(&mut self, setting: Setting, exprs: &'a [Expr]) -> Result<Setting, AllocError>
+    /// The facts behind expressions.
+    fn behind_all(&mut self, facts: Facts, exprs: &'a [Expr]) -> Result<Facts, AllocError>
         ensures adds { IfOk result (λ after. Adds self.old self.new []) }
-        ensures means { IfOk result (λ after. (s : Scope) → Means self.old.nodes.items setting s → Means self.new.nodes.items after (behind exprs.now s)) }
+        ensures means { IfOk result (λ after. (s : Scope) → Means self.old.nodes.items facts s → Means self.new.nodes.items after (behind exprs.now s)) }
     {
-        let mut after = setting;
+        let mut after = facts;
         for expr in exprs {
             after = self.behind(after, expr)?;
         }
@@ -342,46 +330,46 @@ impl<'a> Walk<'a> {
     /// A comprehension: what its row leaves unsafe is so in the qualifiers, since it stands before them.
     fn push_comprehension(
         &mut self,
-        setting: Setting,
+        facts: Facts,
         row: &'a [Expr],
         quals: &'a [Qual],
     ) -> Result<(), AllocError>
-        ensures { IfOk result (λ u. (s : Scope) → Means self.old.nodes.items setting s → Adds self.old self.new (comprehension_in s row.now quals.now)) }
+        ensures { IfOk result (λ u. (s : Scope) → Means self.old.nodes.items facts s → Adds self.old self.new (comprehension_in s row.now quals.now)) }
     {
-        let inner = self.generate_all(setting, quals)?;
+        let inner = self.generate_all(facts, quals)?;
         self.push_same(inner, row)?;
         let behind = self.behind_all(inner, row)?;
-        let outer = Setting {
+        let outer = Facts {
             dangers: behind.dangers,
-            ..setting
+            ..facts
         };
         self.push_quals(outer, quals)
     }
 
-    /// A clause of a `case` or a `receive`, and the setting at its end.
+    /// A clause of a `case` or a `receive`, and the facts at its end.
     #[cycle(expr)]
-    fn push_alt(&mut self, setting: Setting, alt: &'a Alt) -> Result<Setting, AllocError>
-        ensures { IfOk result (λ after. (s : Scope) → Means self.old.nodes.items setting s → Adds self.old self.new (alt_layer_in s (out-Alt alt.now)) × Means self.new.nodes.items after (past_alt (out-Alt alt.now) s)) }
+    fn push_alt(&mut self, facts: Facts, alt: &'a Alt) -> Result<Facts, AllocError>
+        ensures { IfOk result (λ after. (s : Scope) → Means self.old.nodes.items facts s → Adds self.old self.new (alt_layer_in s (out-Alt alt.now)) × Means self.new.nodes.items after (past_alt (out-Alt alt.now) s)) }
     {
-        let matched = Setting {
-            sizes: setting.known,
-            ..setting
+        let matched = Facts {
+            sizes: facts.known,
+            ..facts
         };
         let known = self.push_pattern(matched, &alt.pattern)?;
         self.push_guard(known, &alt.guard)?;
         self.push_body(known, alt.body.items())
     }
 
-    /// The clauses of a `case` or a `receive`, and the setting behind them.
+    /// The clauses of a `case` or a `receive`, and the facts behind them.
     #[cycle(expr)]
-    fn push_alts(&mut self, setting: Setting, alts: &'a [Alt]) -> Result<Setting, AllocError>
-        ensures { IfOk result (λ after. (s : Scope) → Means self.old.nodes.items setting s → Adds self.old self.new (each (alt_in s) [] alts.now) × Means self.new.nodes.items after (left_behind (alts_unsafe alts.now) s)) }
+    fn push_alts(&mut self, facts: Facts, alts: &'a [Alt]) -> Result<Facts, AllocError>
+        ensures { IfOk result (λ after. (s : Scope) → Means self.old.nodes.items facts s → Adds self.old self.new (each (alt_in s) [] alts.now) × Means self.new.nodes.items after (left_behind (alts_unsafe alts.now) s)) }
     {
         let start = self.tasks.len();
-        let mut joined = setting;
+        let mut joined = facts;
         for (index, alt) in alts.iter().enumerate() {
             let middle = self.tasks.len();
-            let after = self.push_alt(setting, alt)?;
+            let after = self.push_alt(facts, alt)?;
             let larger = is_larger(start, middle, self.tasks.len());
             let before = &alts[..index];
             joined = self.join_alt(joined, after, larger, before, alt)?;
@@ -389,29 +377,25 @@ impl<'a> Walk<'a> {
         Ok(joined)
     }
 
-    /// A clause of an `if`, and the setting at its end.
+    /// A clause of an `if`, and the facts at its end.
     #[cycle(expr)]
-    fn push_branch(&mut self, setting: Setting, branch: &'a Branch) -> Result<Setting, AllocError>
-        ensures { IfOk result (λ after. (s : Scope) → Means self.old.nodes.items setting s → Adds self.old self.new (branch_layer_in s (out-Branch branch.now)) × Means self.new.nodes.items after (past_items (out-Branch branch.now).body s)) }
+    fn push_branch(&mut self, facts: Facts, branch: &'a Branch) -> Result<Facts, AllocError>
+        ensures { IfOk result (λ after. (s : Scope) → Means self.old.nodes.items facts s → Adds self.old self.new (branch_layer_in s (out-Branch branch.now)) × Means self.new.nodes.items after (past_items (out-Branch branch.now).body s)) }
     {
-        self.push_guard(setting, &branch.guard)?;
-        self.push_body(setting, branch.body.items())
+        self.push_guard(facts, &branch.guard)?;
+        self.push_body(facts, branch.body.items())
     }
 
-    /// The clauses of an `if`, and the setting behind them.
+    /// The clauses of an `if`, and the facts behind them.
     #[cycle(expr)]
-    fn push_branches(
-        &mut self,
-        setting: Setting,
-        branches: &'a [Branch],
-    ) -> Result<Setting, AllocError>
-        ensures { IfOk result (λ after. (s : Scope) → Means self.old.nodes.items setting s → Adds self.old self.new (each (branch_in s) [] branches.now) × Means self.new.nodes.items after (left_behind (branches_unsafe branches.now) s)) }
+    fn push_branches(&mut self, facts: Facts, branches: &'a [Branch]) -> Result<Facts, AllocError>
+        ensures { IfOk result (λ after. (s : Scope) → Means self.old.nodes.items facts s → Adds self.old self.new (each (branch_in s) [] branches.now) × Means self.new.nodes.items after (left_behind (branches_unsafe branches.now) s)) }
     {
         let start = self.tasks.len();
-        let mut joined = setting;
+        let mut joined = facts;
         for (index, branch) in branches.iter().enumerate() {
             let middle = self.tasks.len();
-            let after = self.push_branch(setting, branch)?;
+            let after = self.push_branch(facts, branch)?;
             let larger = is_larger(start, middle, self.tasks.len());
             let before = &branches[..index];
             let body = branch.body.items();
@@ -420,24 +404,24 @@ impl<'a> Walk<'a> {
         Ok(joined)
     }
 
-    /// A body, and the setting at its end.
+    /// A body, and the facts at its end.
     #[cycle(expr)]
-    fn push_body(&mut self, setting: Setting, items: &'a [Item]) -> Result<Setting, AllocError>
-        ensures { IfOk result (λ after. (s : Scope) → Means self.old.nodes.items setting s → Adds self.old self.new (spot s (ABody items.now) ∷ []) × Means self.new.nodes.items after (past_items items.now s)) }
+    fn push_body(&mut self, facts: Facts, items: &'a [Item]) -> Result<Facts, AllocError>
+        ensures { IfOk result (λ after. (s : Scope) → Means self.old.nodes.items facts s → Adds self.old self.new (spot s (ABody items.now) ∷ []) × Means self.new.nodes.items after (past_items items.now s)) }
     {
-        self.push_alone(setting, Part::Body(items))?;
-        self.push_items(setting, items)
+        self.push_alone(facts, Part::Body(items))?;
+        self.push_items(facts, items)
     }
 
     #[cycle(expr)]
-    fn push_items(&mut self, setting: Setting, items: &'a [Item]) -> Result<Setting, AllocError>
-        ensures { IfOk result (λ after. (s : Scope) → Means self.old.nodes.items setting s → Adds self.old self.new (each (items_in s) [] items.now) × Means self.new.nodes.items after (past_items items.now s)) }
+    fn push_items(&mut self, facts: Facts, items: &'a [Item]) -> Result<Facts, AllocError>
+        ensures { IfOk result (λ after. (s : Scope) → Means self.old.nodes.items facts s → Adds self.old self.new (each (items_in s) [] items.now) × Means self.new.nodes.items after (past_items items.now s)) }
     {
-        let mut after = setting;
+        let mut after = facts;
         for item in items {
             let behind = self.push_expr(after, &item.value)?;
             let matched = self.push_matched(after, item.patterns.items())?;
-            after = Setting {
+            after = Facts {
                 known: matched.known,
                 ..behind
             };
@@ -445,16 +429,12 @@ impl<'a> Walk<'a> {
         Ok(after)
     }
 
-    /// The segments of a bit expression, and the setting behind them.
+    /// The segments of a bit expression, and the facts behind them.
     #[cycle(expr)]
-    fn push_built(
-        &mut self,
-        setting: Setting,
-        segments: &'a [Segment],
-    ) -> Result<Setting, AllocError>
-        ensures { IfOk result (λ after. (s : Scope) → Means self.old.nodes.items setting s → Adds self.old self.new (each (built_in_turn s) [] segments.now) × Means self.new.nodes.items after (behind (built_exprs segments.now) s)) }
+    fn push_built(&mut self, facts: Facts, segments: &'a [Segment]) -> Result<Facts, AllocError>
+        ensures { IfOk result (λ after. (s : Scope) → Means self.old.nodes.items facts s → Adds self.old self.new (each (built_in_turn s) [] segments.now) × Means self.new.nodes.items after (behind (built_exprs segments.now) s)) }
     {
-        let mut after = setting;
+        let mut after = facts;
         for (index, segment) in segments.iter().enumerate() {
             let last = is_last(segments, index);
             self.push_alone(after, Part::Segment(SideUse::Build, last, segment))?;
@@ -463,119 +443,107 @@ impl<'a> Walk<'a> {
         Ok(after)
     }
 
-    /// What stands inside a segment of a bit expression, and the setting behind it.
+    /// What stands inside a segment of a bit expression, and the facts behind it.
     #[cycle(expr)]
-    fn push_value(&mut self, setting: Setting, segment: &'a Segment) -> Result<Setting, AllocError>
-        ensures { IfOk result (λ after. (s : Scope) → Means self.old.nodes.items setting s → Adds self.old self.new (inside_segment s Build segment.now) × Means self.new.nodes.items after (behind (segment.now.value ∷ sizes_of segment.now) s)) }
+    fn push_value(&mut self, facts: Facts, segment: &'a Segment) -> Result<Facts, AllocError>
+        ensures { IfOk result (λ after. (s : Scope) → Means self.old.nodes.items facts s → Adds self.old self.new (inside_segment s Build segment.now) × Means self.new.nodes.items after (behind (segment.now.value ∷ sizes_of segment.now) s)) }
     {
-        let behind = self.push_expr(setting, &segment.value)?;
+        let behind = self.push_expr(facts, &segment.value)?;
         match &segment.size {
             Some(size) => self.push_expr(behind, size),
             None => Ok(behind),
         }
     }
 
-    /// Expressions one behind another, and the setting behind them.
+    /// Expressions one behind another, and the facts behind them.
     #[cycle(expr)]
-    fn push_exprs(&mut self, setting: Setting, exprs: &'a [Expr]) -> Result<Setting, AllocError>
-        ensures { IfOk result (λ after. (s : Scope) (front : List Expr) → Means self.old.nodes.items setting (behind front s) → Adds self.old self.new (each (expr_in s) front exprs.now) × Means self.new.nodes.items after (behind (front ++ exprs.now) s)) }
+    fn push_exprs(&mut self, facts: Facts, exprs: &'a [Expr]) -> Result<Facts, AllocError>
+        ensures { IfOk result (λ after. (s : Scope) (front : List Expr) → Means self.old.nodes.items facts (behind front s) → Adds self.old self.new (each (expr_in s) front exprs.now) × Means self.new.nodes.items after (behind (front ++ exprs.now) s)) }
     {
-        let mut after = setting;
+        let mut after = facts;
         for expr in exprs {
             after = self.push_expr(after, expr)?;
         }
         Ok(after)
     }
 
-    /// An expression, and the setting behind it.
+    /// An expression, and the facts behind it.
     #[cycle(expr)]
-    fn push_expr(&mut self, setting: Setting, expr: &'a Expr) -> Result<Setting, AllocError>
-        ensures { IfOk result (λ after. (s : Scope) → Means self.old.nodes.items setting s → Adds self.old self.new (spot s (AnExpr expr.now) ∷ []) × Means self.new.nodes.items after (behind (expr.now ∷ []) s)) }
+    fn push_expr(&mut self, facts: Facts, expr: &'a Expr) -> Result<Facts, AllocError>
+        ensures { IfOk result (λ after. (s : Scope) → Means self.old.nodes.items facts s → Adds self.old self.new (spot s (AnExpr expr.now) ∷ []) × Means self.new.nodes.items after (behind (expr.now ∷ []) s)) }
     {
-        self.push_alone(setting, Part::Expr(expr))?;
-        self.push_in_expr(setting, expr)
+        self.push_alone(facts, Part::Expr(expr))?;
+        self.push_in_expr(facts, expr)
     }
 
-    /// What stands inside an expression, and the setting behind it.
+    /// What stands inside an expression, and the facts behind it.
     #[cycle(expr)]
-    fn push_in_expr(&mut self, setting: Setting, expr: &'a Expr) -> Result<Setting, AllocError>
-        ensures { IfOk result (λ after. (s : Scope) → Means self.old.nodes.items setting s → Adds self.old self.new (inside_expr s expr.now) × Means self.new.nodes.items after (behind (expr.now ∷ []) s)) }
+    fn push_in_expr(&mut self, facts: Facts, expr: &'a Expr) -> Result<Facts, AllocError>
+        ensures { IfOk result (λ after. (s : Scope) → Means self.old.nodes.items facts s → Adds self.old self.new (inside_expr s expr.now) × Means self.new.nodes.items after (behind (expr.now ∷ []) s)) }
     {
         match expr {
-            Expr::Tuple { items, .. } => self.push_exprs(setting, items.items()),
+            Expr::Tuple { items, .. } => self.push_exprs(facts, items.items()),
             Expr::List { items, tail, .. } => {
-                let behind = self.push_exprs(setting, items.items())?;
+                let behind = self.push_exprs(facts, items.items())?;
                 self.push_exprs(behind, tail.items())
             }
-            Expr::Bits { segments, .. } => self.push_built(setting, segments.items()),
+            Expr::Bits { segments, .. } => self.push_built(facts, segments.items()),
             Expr::ListFor { row, quals, .. } => {
-                self.push_comprehension(setting, row.items(), quals.items())?;
-                self.behind(setting, expr)
+                self.push_comprehension(facts, row.items(), quals.items())?;
+                self.behind(facts, expr)
             }
             Expr::BitsFor { row, quals, .. } => {
-                self.push_comprehension(setting, row.items(), quals.items())?;
-                self.behind(setting, expr)
+                self.push_comprehension(facts, row.items(), quals.items())?;
+                self.behind(facts, expr)
             }
-            Expr::Call { args, .. } => self.push_exprs(setting, args.items()),
+            Expr::Call { args, .. } => self.push_exprs(facts, args.items()),
             Expr::Case { value, alts, .. } => {
-                let behind = self.push_exprs(setting, value.items())?;
+                let behind = self.push_exprs(facts, value.items())?;
                 self.push_alts(behind, alts.items())
             }
-            Expr::Receive { alts, .. } => self.push_alts(setting, alts.items()),
-            Expr::If { branches, .. } => self.push_branches(setting, branches.items()),
-            Expr::Unary { part, .. } => self.push_exprs(setting, part.items()),
-            Expr::Binary { parts, .. } => self.push_exprs(setting, parts.items()),
-            _ => self.behind(setting, expr),
+            Expr::Receive { alts, .. } => self.push_alts(facts, alts.items()),
+            Expr::If { branches, .. } => self.push_branches(facts, branches.items()),
+            Expr::Unary { part, .. } => self.push_exprs(facts, part.items()),
+            Expr::Binary { parts, .. } => self.push_exprs(facts, parts.items()),
+            _ => self.behind(facts, expr),
         }
     }
 
-    /// A pattern, and the setting behind it.
+    /// A pattern, and the facts behind it.
     #[cycle(pattern)]
-    fn push_pattern(
-        &mut self,
-        setting: Setting,
-        pattern: &'a Pattern,
-    ) -> Result<Setting, AllocError>
-        ensures { IfOk result (λ after. (s : Scope) → Means self.old.nodes.items setting s → Sees self.old.nodes.items setting.sizes s.outer → Adds self.old self.new (spot s (APattern pattern.now) ∷ []) × (Means self.new.nodes.items after (with_known (targets pattern.now) s) × (after.sizes ≡ setting.sizes))) }
+    fn push_pattern(&mut self, facts: Facts, pattern: &'a Pattern) -> Result<Facts, AllocError>
+        ensures { IfOk result (λ after. (s : Scope) → Means self.old.nodes.items facts s → Sees self.old.nodes.items facts.sizes s.outer → Adds self.old self.new (spot s (APattern pattern.now) ∷ []) × (Means self.new.nodes.items after (with_known (targets pattern.now) s) × (after.sizes ≡ facts.sizes))) }
     {
-        self.push_alone(setting, Part::Pattern(pattern))?;
-        self.push_in_pattern(setting, pattern)
+        self.push_alone(facts, Part::Pattern(pattern))?;
+        self.push_in_pattern(facts, pattern)
     }
 
-    /// What stands inside a pattern, and the setting behind it.
+    /// What stands inside a pattern, and the facts behind it.
     #[cycle(pattern)]
-    fn push_in_pattern(
-        &mut self,
-        setting: Setting,
-        pattern: &'a Pattern,
-    ) -> Result<Setting, AllocError>
-        ensures { IfOk result (λ after. (s : Scope) → Means self.old.nodes.items setting s → Sees self.old.nodes.items setting.sizes s.outer → Adds self.old self.new (inside_pattern s pattern.now) × (Means self.new.nodes.items after (with_known (targets pattern.now) s) × (after.sizes ≡ setting.sizes))) }
+    fn push_in_pattern(&mut self, facts: Facts, pattern: &'a Pattern) -> Result<Facts, AllocError>
+        ensures { IfOk result (λ after. (s : Scope) → Means self.old.nodes.items facts s → Sees self.old.nodes.items facts.sizes s.outer → Adds self.old self.new (inside_pattern s pattern.now) × (Means self.new.nodes.items after (with_known (targets pattern.now) s) × (after.sizes ≡ facts.sizes))) }
     {
         match pattern {
-            Pattern::Tuple { items, .. } => self.push_patterns(setting, items.items()),
+            Pattern::Tuple { items, .. } => self.push_patterns(facts, items.items()),
             Pattern::List { items, tail, .. } => {
-                let behind = self.push_patterns(setting, items.items())?;
+                let behind = self.push_patterns(facts, items.items())?;
                 self.push_patterns(behind, tail.items())
             }
             Pattern::Bits { segments, .. } => {
-                self.push_segments(SideUse::Match, setting, segments.items())?;
-                self.know(setting, pattern)
+                self.push_segments(SideUse::Match, facts, segments.items())?;
+                self.know(facts, pattern)
             }
-            Pattern::Same { patterns, .. } => self.push_patterns(setting, patterns.items()),
-            _ => self.know(setting, pattern),
+            Pattern::Same { patterns, .. } => self.push_patterns(facts, patterns.items()),
+            _ => self.know(facts, pattern),
         }
     }
 
-    /// Patterns one behind another, and the setting behind them.
+    /// Patterns one behind another, and the facts behind them.
     #[cycle(pattern)]
-    fn push_patterns(
-        &mut self,
-        setting: Setting,
-        patterns: &'a [Pattern],
-    ) -> Result<Setting, AllocError>
-        ensures { IfOk result (λ after. (s : Scope) (front : List Pattern) → Means self.old.nodes.items setting (past_patterns front s) → Sees self.old.nodes.items setting.sizes s.outer → Adds self.old self.new (each (pattern_in s) front patterns.now) × (Means self.new.nodes.items after (past_patterns (front ++ patterns.now) s) × (after.sizes ≡ setting.sizes))) }
+    fn push_patterns(&mut self, facts: Facts, patterns: &'a [Pattern]) -> Result<Facts, AllocError>
+        ensures { IfOk result (λ after. (s : Scope) (front : List Pattern) → Means self.old.nodes.items facts (past_patterns front s) → Sees self.old.nodes.items facts.sizes s.outer → Adds self.old self.new (each (pattern_in s) front patterns.now) × (Means self.new.nodes.items after (past_patterns (front ++ patterns.now) s) × (after.sizes ≡ facts.sizes))) }
     {
-        let mut after = setting;
+        let mut after = facts;
         for pattern in patterns {
             after = self.push_pattern(after, pattern)?;
         }
@@ -583,23 +551,23 @@ impl<'a> Walk<'a> {
     }
 
     /// The size of a segment, where one is written.
-    fn push_size(&mut self, setting: Setting, size: &'a Option<Expr>) -> Result<(), AllocError>
-        ensures { IfOk result (λ u. (s : Scope) → Means self.old.nodes.items setting s → Adds self.old self.new (size_in s size.now)) }
+    fn push_size(&mut self, facts: Facts, size: &'a Option<Expr>) -> Result<(), AllocError>
+        ensures { IfOk result (λ u. (s : Scope) → Means self.old.nodes.items facts s → Adds self.old self.new (size_in s size.now)) }
     {
         match size {
-            Some(size) => self.push(setting, Part::Expr(size)),
+            Some(size) => self.push(facts, Part::Expr(size)),
             None => Ok(()),
         }
     }
 
     /// What stands inside a segment of a bit pattern.
-    fn push_sized(&mut self, setting: Setting, segment: &'a Segment) -> Result<(), AllocError>
-        ensures { IfOk result (λ u. (s : Scope) → Means self.old.nodes.items setting s → Sees self.old.nodes.items setting.sizes (size_scope s).known → Adds self.old self.new (size_in (size_scope s) segment.now.size)) }
+    fn push_sized(&mut self, facts: Facts, segment: &'a Segment) -> Result<(), AllocError>
+        ensures { IfOk result (λ u. (s : Scope) → Means self.old.nodes.items facts s → Sees self.old.nodes.items facts.sizes (size_scope s).known → Adds self.old self.new (size_in (size_scope s) segment.now.size)) }
     {
-        let sized = Setting {
-            known: setting.sizes,
+        let sized = Facts {
+            known: facts.sizes,
             guarded: true,
-            ..setting
+            ..facts
         };
         self.push_size(sized, &segment.size)
     }
@@ -607,40 +575,40 @@ impl<'a> Walk<'a> {
     /// What stands inside a segment.
     fn push_segment(
         &mut self,
-        setting: Setting,
+        facts: Facts,
         side: SideUse,
         segment: &'a Segment,
     ) -> Result<(), AllocError>
-        ensures { IfOk result (λ u. (s : Scope) (last : Bool) → Means self.old.nodes.items setting s → SeesSizes self.old.nodes.items setting.sizes s (ASegment side last segment.now) → Adds self.old self.new (inside_segment s side segment.now)) }
+        ensures { IfOk result (λ u. (s : Scope) (last : Bool) → Means self.old.nodes.items facts s → SeesSizes self.old.nodes.items facts.sizes s (ASegment side last segment.now) → Adds self.old self.new (inside_segment s side segment.now)) }
     {
         match side {
             SideUse::Build => {
-                self.push_value(setting, segment)?;
+                self.push_value(facts, segment)?;
                 Ok(())
             }
-            SideUse::Match => self.push_sized(setting, segment),
-            SideUse::Generator => self.push_sized(setting, segment),
+            SideUse::Match => self.push_sized(facts, segment),
+            SideUse::Generator => self.push_sized(facts, segment),
         }
     }
 
     /// What stands right inside a part.
-    fn push_in_part(&mut self, setting: Setting, part: Part<'a>) -> Result<(), AllocError>
-        ensures { IfOk result (λ u. (s : Scope) → Means self.old.nodes.items setting s → SeesSizes self.old.nodes.items setting.sizes s (part_of part.entry) → Adds self.old self.new (inside s (part_of part.entry))) }
+    fn push_in_part(&mut self, facts: Facts, part: Part<'a>) -> Result<(), AllocError>
+        ensures { IfOk result (λ u. (s : Scope) → Means self.old.nodes.items facts s → SeesSizes self.old.nodes.items facts.sizes s (part_of part.entry) → Adds self.old self.new (inside s (part_of part.entry))) }
     {
         match part {
             Part::Expr(expr) => {
-                self.push_in_expr(setting, expr)?;
+                self.push_in_expr(facts, expr)?;
                 Ok(())
             }
             Part::Pattern(pattern) => {
-                self.push_in_pattern(setting, pattern)?;
+                self.push_in_pattern(facts, pattern)?;
                 Ok(())
             }
             Part::Body(items) => {
-                self.push_items(setting, items)?;
+                self.push_items(facts, items)?;
                 Ok(())
             }
-            Part::Segment(side, _, segment) => self.push_segment(setting, side, segment),
+            Part::Segment(side, _, segment) => self.push_segment(facts, side, segment),
         }
     }
 
@@ -649,7 +617,7 @@ impl<'a> Walk<'a> {
         ensures { IfOk result (λ u. (d : Spot) → Fits self.old.nodes.items task.entry d → Adds self.old self.new (left_in task.entry.whole d)) }
     {
         if task.whole {
-            self.push_in_part(task.setting, task.part)
+            self.push_in_part(task.facts, task.part)
         } else {
             Ok(())
         }
@@ -659,7 +627,7 @@ impl<'a> Walk<'a> {
     fn push_clause(&mut self, clause: &'a Clause) -> Result<(), AllocError>
         ensures { IfOk result (λ u. Adds self.old self.new (clause_in [] clause.now [])) }
     {
-        let nothing = Setting {
+        let nothing = Facts {
             known: 0,
             sizes: 0,
             dangers: 0,

@@ -1,4 +1,5 @@
 pub mod Characters
+pub mod Each
 pub mod FormGuards
 pub mod FormLiterals
 pub mod ModuleGuards
@@ -8,8 +9,7 @@ pub mod NumberedPlaces
 pub mod ReadGuards
 pub mod ReadLiterals
 pub mod RisingPlaces
-pub mod SpeltGuards
-pub mod SpeltLiterals
+pub mod SpeltForms
 pub mod SpeltVariables
 pub mod VariableForms
 pub mod Words

@@ -1,7 +1,7 @@
 -- What is read has its guards and sizes in the form of guard expressions where what it is read from has: one lemma a form. Where `X`
 -- holds, as in a guard, it has that form itself.
 use Rattle.std.proofs.Common.{◌≢◌, ℕ, pos, List, [], ◌∷◌, ◌++◌, map, reverse, Option, Some, None, refl}
-use mathlib.Core.List.{reverse_aux}
+use Rattle.std.specs.List.{AllByRecursion}
 use Rattle.erl_syntax.specs.declared.expr.Op.{Op}
 use Rattle.erl_syntax.specs.declared.expr.Op.TheVariants as o
 use Rattle.erl_syntax.specs.declared.expr.Prefix.{Prefix}
@@ -9,7 +9,8 @@ use Rattle.erl_syntax.specs.declared.segment.Spec.{Spec}
 use Rattle.term_value.specs.Value.{VInt}
 use Rattle.term_value.specs.Tree.{Tree, Trees, end, Pattern, Segments, no_segment, segment, Form, Table, Call, Send, Display, Spawn, All}
 use Rattle.term_value.specs.Rows.{and_variable, shape_after, bits_generator}
-use Rattle.term_value.specs.Read.{Read, expression, literal, trees, only, Piece, piece, pieces_of, pieces, before_size, parts, built_from, segments, listed, prefixed, operation, Line, patterns, from_right, last_line, body, alternatives, guard_of, Branch, clauses, Qualifier, Generates, Filters, qualified, pattern_list}
+use Rattle.term_value.specs.Read.{Read, expression, literal, trees, Piece, piece, pieces_of, pieces, before_size, parts, built_from, segments, listed, prefixed, operation, Line, patterns, from_right, last_line, body, alternatives, guard_of, Branch, clauses, Qualifier, Generates, Filters, qualified, pattern_list}
+use Rattle.module_laws.proofs.Each.{each_append, each_turned}
 use Rattle.module_laws.specs.GuardForms.{IsGuardForm, AreGuardForms, HasGuardForms, HaveGuardForms, HaveClauseForms, HasTestForms, HaveQualForms, HasGeneratorForms, HasPatternForms, HavePatternForms, HaveSizeForms}
 
 module _ (X : Type 0) where
@@ -20,8 +21,7 @@ module _ (X : Type 0) where
   IsRead rd = IsTree rd.tree
 
   abbrev pub AreRead : List Read → Type 0
-  AreRead [] = Unit {0}
-  AreRead (rd ∷ rds) = IsRead rd × AreRead rds
+  AreRead rds = AllByRecursion IsRead rds
 
   abbrev pub AreTrees : Trees → Type 0
   AreTrees ts = HaveGuardForms ts × (X → AreGuardForms ts)
@@ -30,17 +30,9 @@ module _ (X : Type 0) where
   trees_read [] h = (tt, λ k. tt)
   trees_read (rd ∷ rds) h = let r = trees_read rds h.1 in ((h.0.0, r.0), λ k. (h.0.1 k, r.1 k))
 
-  read_append : (rds others : List Read) → AreRead rds → AreRead others → AreRead (rds ++ others)
-  read_append [] others h g = g
-  read_append (rd ∷ rds) others h g = (h.0, read_append rds others h.1 g)
-
-  pub only_read : (rds : List Read) → AreRead rds → IsTree (only rds)
-  only_read [] h = (tt, λ k. tt)
-  only_read (rd ∷ rds) h = h.0
-
   pub listed_read : (items tail : List Read) → AreRead items → AreRead tail → IsTree (listed items tail)
   listed_read items [] h g = trees_read items h
-  listed_read items (rd ∷ rds) h g = trees_read (items ++ rd ∷ []) (read_append items (rd ∷ []) h (g.0, tt))
+  listed_read items (rd ∷ rds) h g = trees_read (items ++ rd ∷ []) (each_append IsRead items (rd ∷ []) h (g.0, tt))
 
   -- a form that isn't `!`
   form_by : (form : Form) (ts : Trees) → form ≢ Send → AreGuardForms ts → IsGuardForm (All form ts)
@@ -72,8 +64,7 @@ module _ (X : Type 0) where
   IsPiece q = IsRead q.value × OfSize q.size
 
   abbrev pub ArePieces : List Piece → Type 0
-  ArePieces [] = Unit {0}
-  ArePieces (q ∷ ps) = IsPiece q × ArePieces ps
+  ArePieces ps = AllByRecursion IsPiece ps
 
   abbrev pub OfRead : Option Read → Type 0
   OfRead None = Unit {0}
@@ -93,10 +84,6 @@ module _ (X : Type 0) where
 
   pub pieces_read : (value : Read) (size : Option Read) (words : List Spec) → IsRead value → OfRead size → ArePieces (pieces value size words)
   pieces_read value size words h g = pieces_by value.letters size words value g h
-
-  pub pieces_append : (ps qs : List Piece) → ArePieces ps → ArePieces qs → ArePieces (ps ++ qs)
-  pieces_append [] qs h g = g
-  pieces_append (q ∷ ps) qs h g = (h.0, pieces_append ps qs h.1 g)
 
   sized_trees : (size : Option Tree) (ts : Trees) → OfSize size → AreTrees ts → AreTrees (before_size size ts)
   sized_trees None ts h g = g
@@ -123,19 +110,14 @@ bits_read ss h = (h, shaped [] ss h)
 -- ---- Patterns, bodies, clauses and qualifiers
 
 abbrev pub EachPattern : List Pattern → Type 0
-EachPattern [] = Unit {0}
-EachPattern (q ∷ ps) = HasPatternForms q × EachPattern ps
+EachPattern ps = AllByRecursion HasPatternForms ps
 
 pub patterns_read : (ps : List Pattern) → EachPattern ps → HavePatternForms (patterns ps)
 patterns_read [] h = tt
 patterns_read (q ∷ ps) h = (h.0, patterns_read ps h.1)
 
-turned : (ps qs : List Pattern) → EachPattern ps → EachPattern qs → EachPattern (reverse_aux ps qs)
-turned [] qs h g = g
-turned (q ∷ ps) qs h g = turned ps (q ∷ qs) h.1 (h.0, g)
-
 right_read : (ps : List Pattern) → EachPattern ps → HavePatternForms (from_right ps)
-right_read ps h = patterns_read (reverse ps) (turned ps [] h tt)
+right_read ps h = patterns_read (reverse ps) (each_turned HasPatternForms ps [] h tt)
 
 pub pattern_list_read : (items tail : List Pattern) → EachPattern items → EachPattern tail → HasPatternForms (pattern_list items tail)
 pattern_list_read items [] h g = patterns_read items h
@@ -145,8 +127,7 @@ abbrev pub IsLine : Line → Type 0
 IsLine l = EachPattern l.patterns × HasGuardForms l.value
 
 abbrev pub EachLine : List Line → Type 0
-EachLine [] = Unit {0}
-EachLine (l ∷ ls) = IsLine l × EachLine ls
+EachLine ls = AllByRecursion IsLine ls
 
 last_read : (ps : List Pattern) (t : Tree) → EachPattern ps → HasGuardForms t → HasGuardForms (last_line ps t)
 last_read [] t h g = g
@@ -159,8 +140,7 @@ body_read (l ∷ next ∷ ls) h = (h.0.1, (right_read l.patterns h.0.0, body_rea
 
 module _ (X : Type 0) where
   abbrev pub EachTest : List (List Read) → Type 0
-  EachTest [] = Unit {0}
-  EachTest (rds ∷ tests) = AreRead X rds × EachTest tests
+  EachTest tests = AllByRecursion (AreRead X) tests
 
   alternatives_read : (tests : List (List Read)) → X → EachTest tests → HasTestForms (alternatives (map trees tests))
   alternatives_read [] k h = tt
@@ -174,8 +154,7 @@ abbrev pub IsBranch : Branch → Type 0
 IsBranch b = HavePatternForms b.heads × HasTestForms b.guard × EachLine b.lines
 
 abbrev pub EachBranch : List Branch → Type 0
-EachBranch [] = Unit {0}
-EachBranch (b ∷ bs) = IsBranch b × EachBranch bs
+EachBranch bs = AllByRecursion IsBranch bs
 
 pub clauses_read : (bs : List Branch) → EachBranch bs → HaveClauseForms (clauses bs)
 clauses_read [] h = tt
@@ -186,8 +165,7 @@ IsQualifier (Generates t g) = HasGuardForms t × HasGeneratorForms g
 IsQualifier (Filters t) = HasGuardForms t
 
 abbrev pub EachQualifier : List Qualifier → Type 0
-EachQualifier [] = Unit {0}
-EachQualifier (q ∷ qs) = IsQualifier q × EachQualifier qs
+EachQualifier qs = AllByRecursion IsQualifier qs
 
 pub qualified_read : (qs : List Qualifier) (t : Tree) → EachQualifier qs → HasGuardForms t → HaveQualForms (qualified qs t)
 qualified_read [] t h g = g

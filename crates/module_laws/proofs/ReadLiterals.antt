@@ -1,8 +1,7 @@
 -- What is read has its literals within the bounds where what it is read from has: one lemma a form.
 use Rattle.std.proofs.Common.{◌≡◌, ℕ, zero, suc, ℤ, pos, negsuc, ◌+◌, ◌<◌, ◌≤◌, ◌^◌, Bool, true, false, List, [], ◌∷◌, ◌++◌, length, map, reverse, Option, Some, None, refl, arith}
-use mathlib.Core.List.{reverse_aux}
 use Rattle.std.specs.Prelude.{nat_le, nat_lt, neg_ℤ, ◌&&◌, not}
-use Rattle.std.specs.List.{list_any}
+use Rattle.std.specs.List.{AllByRecursion, list_any}
 use Rattle.std.specs.Prelude.{nat_eq}
 use Rattle.std.proofs.lemmas.Bool.Decides.{nat_tests}
 use Rattle.erl_syntax.specs.declared.expr.Op.{Op}
@@ -15,8 +14,9 @@ use Rattle.term_value.specs.Bounds.{item_bound, weight_bound, depth_bound}
 use Rattle.term_value.specs.BuiltIns.{integers}
 use Rattle.term_value.specs.Tree.{Target, Anything, Variable, Equal, Tree, Trees, end, Pattern, Segments, no_segment, segment}
 use Rattle.term_value.specs.Rows.{uses, variable_where, shape_of_target, and_variable, shape_after, bits_generator}
-use Rattle.term_value.specs.Read.{Read, expression, literal, trees, only, Piece, piece, pieces_of, pieces, before_size, parts, built_from, segments, listed, signed_target, prefixed, operation, Line, patterns, from_right, last_line, body, alternatives, guard_of, Branch, clauses, Qualifier, Generates, Filters, qualified, pattern_list}
+use Rattle.term_value.specs.Read.{Read, expression, literal, trees, Piece, piece, pieces_of, pieces, before_size, parts, built_from, segments, listed, signed_target, prefixed, operation, Line, patterns, from_right, last_line, body, alternatives, guard_of, Branch, clauses, Qualifier, Generates, Filters, qualified, pattern_list}
 use Rattle.term_laws.specs.Inside.{InTarget, InTree, InTrees, InClauses, InGuard, InQuals, InGenerator, InPattern, InPatterns, InSegments, IsBounded, AreBounded}
+use Rattle.module_laws.proofs.Each.{each_append, each_turned}
 
 -- ---- Values
 
@@ -97,8 +97,7 @@ abbrev pub IsRead : Read → Type 0
 IsRead rd = InTree IsBounded rd.tree × IsAim rd.target × OfLetters rd.letters
 
 abbrev pub AreRead : List Read → Type 0
-AreRead [] = Unit {0}
-AreRead (rd ∷ rds) = IsRead rd × AreRead rds
+AreRead rds = AllByRecursion IsRead rds
 
 number_bounded : (v : Value) → IsNumber v → IsBounded v
 number_bounded (VInt n) h = near_bounded n h
@@ -120,17 +119,9 @@ pub trees_read : (rds : List Read) → AreRead rds → InTrees IsBounded (trees 
 trees_read [] h = tt
 trees_read (rd ∷ rds) h = (h.0.0, trees_read rds h.1)
 
-read_append : (rds others : List Read) → AreRead rds → AreRead others → AreRead (rds ++ others)
-read_append [] others h g = g
-read_append (rd ∷ rds) others h g = (h.0, read_append rds others h.1 g)
-
-pub only_read : (rds : List Read) → AreRead rds → InTree IsBounded (only rds)
-only_read [] h = tt
-only_read (rd ∷ rds) h = h.0.0
-
 pub listed_read : (items tail : List Read) → AreRead items → AreRead tail → InTree IsBounded (listed items tail)
 listed_read items [] h g = trees_read items h
-listed_read items (rd ∷ rds) h g = trees_read (items ++ rd ∷ []) (read_append items (rd ∷ []) h (g.0, tt))
+listed_read items (rd ∷ rds) h g = trees_read (items ++ rd ∷ []) (each_append IsRead items (rd ∷ []) h (g.0, tt))
 
 pub operation_read : (op : Op) (l r : Read) → IsRead l → IsRead r → InTree IsBounded (operation op (l ∷ r ∷ []))
 operation_read o.AndAlso l r h g = (h.0, g.0)
@@ -175,8 +166,7 @@ abbrev pub IsPiece : Piece → Type 0
 IsPiece q = IsRead q.value × OfSize q.size
 
 abbrev pub ArePieces : List Piece → Type 0
-ArePieces [] = Unit {0}
-ArePieces (q ∷ ps) = IsPiece q × ArePieces ps
+ArePieces ps = AllByRecursion IsPiece ps
 
 abbrev pub OfRead : Option Read → Type 0
 OfRead None = Unit {0}
@@ -196,10 +186,6 @@ pieces_by (Some cs) size words value l g h = letter_pieces cs size words l g
 
 pub pieces_read : (value : Read) (size : Option Read) (words : List Spec) → IsRead value → OfRead size → ArePieces (pieces value size words)
 pieces_read value size words h g = pieces_by value.letters size words value h.2 g h
-
-pub pieces_append : (ps qs : List Piece) → ArePieces ps → ArePieces qs → ArePieces (ps ++ qs)
-pieces_append [] qs h g = g
-pieces_append (q ∷ ps) qs h g = (h.0, pieces_append ps qs h.1 g)
 
 sized_trees : (size : Option Tree) (ts : Trees) → OfSize size → InTrees IsBounded ts → InTrees IsBounded (before_size size ts)
 sized_trees None ts h g = g
@@ -235,19 +221,14 @@ bits_read ss h = (h, shaped [] ss h)
 -- ---- Patterns, bodies, clauses and qualifiers
 
 abbrev pub EachPattern : List Pattern → Type 0
-EachPattern [] = Unit {0}
-EachPattern (q ∷ ps) = InPattern IsBounded q × EachPattern ps
+EachPattern ps = AllByRecursion (InPattern IsBounded) ps
 
 pub patterns_read : (ps : List Pattern) → EachPattern ps → InPatterns IsBounded (patterns ps)
 patterns_read [] h = tt
 patterns_read (q ∷ ps) h = (h.0, patterns_read ps h.1)
 
-turned : (ps qs : List Pattern) → EachPattern ps → EachPattern qs → EachPattern (reverse_aux ps qs)
-turned [] qs h g = g
-turned (q ∷ ps) qs h g = turned ps (q ∷ qs) h.1 (h.0, g)
-
 right_read : (ps : List Pattern) → EachPattern ps → InPatterns IsBounded (from_right ps)
-right_read ps h = patterns_read (reverse ps) (turned ps [] h tt)
+right_read ps h = patterns_read (reverse ps) (each_turned (InPattern IsBounded) ps [] h tt)
 
 pub pattern_list_read : (items tail : List Pattern) → EachPattern items → EachPattern tail → InPattern IsBounded (pattern_list items tail)
 pattern_list_read items [] h g = patterns_read items h
@@ -257,8 +238,7 @@ abbrev pub IsLine : Line → Type 0
 IsLine l = EachPattern l.patterns × InTree IsBounded l.value
 
 abbrev pub EachLine : List Line → Type 0
-EachLine [] = Unit {0}
-EachLine (l ∷ ls) = IsLine l × EachLine ls
+EachLine ls = AllByRecursion IsLine ls
 
 last_read : (ps : List Pattern) (t : Tree) → EachPattern ps → InTree IsBounded t → InTree IsBounded (last_line ps t)
 last_read [] t h g = g
@@ -270,8 +250,7 @@ body_read (l ∷ []) h = last_read l.patterns l.value h.0.0 h.0.1
 body_read (l ∷ next ∷ ls) h = (h.0.1, (right_read l.patterns h.0.0, body_read (next ∷ ls) h.1))
 
 abbrev pub EachTest : List (List Read) → Type 0
-EachTest [] = Unit {0}
-EachTest (rds ∷ tests) = AreRead rds × EachTest tests
+EachTest tests = AllByRecursion AreRead tests
 
 alternatives_read : (tests : List (List Read)) → EachTest tests → InGuard IsBounded (alternatives (map trees tests))
 alternatives_read [] h = tt
@@ -285,8 +264,7 @@ abbrev pub IsBranch : Branch → Type 0
 IsBranch b = InPatterns IsBounded b.heads × InGuard IsBounded b.guard × EachLine b.lines
 
 abbrev pub EachBranch : List Branch → Type 0
-EachBranch [] = Unit {0}
-EachBranch (b ∷ bs) = IsBranch b × EachBranch bs
+EachBranch bs = AllByRecursion IsBranch bs
 
 pub clauses_read : (bs : List Branch) → EachBranch bs → InClauses IsBounded (clauses bs)
 clauses_read [] h = tt
@@ -297,8 +275,7 @@ IsQualifier (Generates t g) = InTree IsBounded t × InGenerator IsBounded g
 IsQualifier (Filters t) = InTree IsBounded t
 
 abbrev pub EachQualifier : List Qualifier → Type 0
-EachQualifier [] = Unit {0}
-EachQualifier (q ∷ qs) = IsQualifier q × EachQualifier qs
+EachQualifier qs = AllByRecursion IsQualifier qs
 
 pub qualified_read : (qs : List Qualifier) (t : Tree) → EachQualifier qs → InTree IsBounded t → InQuals IsBounded (qualified qs t)
 qualified_read [] t h g = g

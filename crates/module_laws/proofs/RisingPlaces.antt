@@ -10,7 +10,7 @@ use Rattle.std.proofs.lemmas.List.Elements.{All-from_recursion, All-map, All-tai
 use Rattle.std.proofs.lemmas.Str.Parse.{digit_from_value}
 use Rattle.erl_syntax.specs.Characters.{is_continuation, is_digit}
 use Rattle.erl_syntax.specs.Checking.{IsBefore, RisingBy}
-use Rattle.erl_syntax.specs.Reading.{word_of, are_strings, before, joined}
+use Rattle.erl_syntax.specs.Reading.{word_of, are_strings, before, strings_joined}
 use Rattle.erl_syntax.specs.Spellings.{spelling, begins_with}
 use Rattle.erl_syntax.specs.Tokens.{white_len, comment, begins_name, name, integer_at, character, string, quoted_atom, ends_form, full_stop, marked, mark, piece, after, place_from, place, front, is_cut, LexesFrom, ends, stops, skips, finds, refuses}
 use Rattle.erl_syntax.specs.Word.{Word}
@@ -208,9 +208,9 @@ before_behind : (at : Span) (w : Word) (ws : List Word) → IsBefore at w.at →
 before_behind at w [] h g = (h, tt)
 before_behind at w (v ∷ ws) h g = merged_behind (are_strings w.kind v.kind) at w v ws h g
 
-joined_behind : (at : Span) (ws : List Word) → Behind at ws → Behind at (joined ws)
+joined_behind : (at : Span) (ws : List Word) → Behind at ws → Behind at (strings_joined ws)
 joined_behind at [] h = tt
-joined_behind at (w ∷ ws) h = before_behind at w (joined ws) h.0 (joined_behind at ws h.1)
+joined_behind at (w ∷ ws) h = before_behind at w (strings_joined ws) h.0 (joined_behind at ws h.1)
 
 abbrev Rise : List Word → Type 0
 Rise ws = RisingBy (λ (w : Word). w.at) ws
@@ -224,11 +224,11 @@ before_rises : (w : Word) (ws : List Word) → Rise (w ∷ ws) → Rise (before 
 before_rises w [] h = h
 before_rises w (v ∷ ws) h = merged_rises (are_strings w.kind v.kind) w v ws h
 
-joined_rises : (ws : List Word) → Rise ws → Rise (joined ws)
+joined_rises : (ws : List Word) → Rise ws → Rise (strings_joined ws)
 joined_rises [] h = tt
 joined_rises (w ∷ ws) h =
     let l = recursion_from_All (λ (u : Word). IsBefore w.at u.at) ws h.0 in
-    before_rises w (joined ws) (All-from_recursion (λ (u : Word). IsBefore w.at u.at) (joined ws) (joined_behind w.at ws l), joined_rises ws h.1)
+    before_rises w (strings_joined ws) (All-from_recursion (λ (u : Word). IsBefore w.at u.at) (strings_joined ws) (joined_behind w.at ws l), joined_rises ws h.1)
 
 mapped_rises : (text : List ℕ) (table : List (List ℕ)) (tokens : List Token) → RisingBy (λ (t : Token). t.span) tokens → Rise (map (word_of text table) tokens)
 mapped_rises text table [] h = tt

@@ -18,7 +18,8 @@ use Rattle.erl_syntax.specs.declared.clause.Item.{Item}
 use Rattle.erl_syntax.specs.declared.clause.Alt.{Alt, roll-Alt, out-roll-Alt}
 use Rattle.erl_syntax.specs.declared.clause.Branch.{Branch, roll-Branch, out-roll-Branch}
 use Rattle.erl_syntax.specs.declared.module.Clause.{Clause}
-use Rattle.module_laws.specs.Variables.{joined, clause_spans, expr_layer, pattern_layer, qual_layer, alt_layer, branch_layer, guard_layer, item_layer, segment_layer, expr_spans, pattern_spans, qual_spans, alt_spans, branch_spans, guard_spans, item_spans, segment_spans}
+use Rattle.erl_syntax.specs.Bindings.{joined}
+use Rattle.module_laws.specs.Variables.{clause_spans, expr_layer, pattern_layer, qual_layer, alt_layer, branch_layer, guard_layer, item_layer, segment_layer, expr_spans, pattern_spans, qual_spans, alt_spans, branch_spans, guard_spans, item_spans, segment_spans}
 
 abbrev pub in_exprs : List Expr → List Span
 in_exprs ys = joined (map expr_spans ys)

@@ -9,7 +9,7 @@ use Rattle.std.specs.List.{AllByRecursion}
 use Rattle.std.specs.Str.Lossy.{utf8_valid_len}
 use Rattle.erl_syntax.specs.Word.{Word}
 use Rattle.erl_syntax.specs.Characters.{string_characters}
-use Rattle.erl_syntax.specs.Reading.{longest_text, number_of, characters_of, word_of, are_strings, before, joined, words_of}
+use Rattle.erl_syntax.specs.Reading.{longest_text, number_of, characters_of, word_of, are_strings, before, strings_joined, words_of}
 use Rattle.erl_syntax.specs.Tokens.{place, front, is_cut, token_text, Lexes, LexesFrom, ends, stops, skips, finds, refuses}
 use Rattle.erl_syntax.specs.declared.token.LexFault.{LexFault}
 use Rattle.erl_syntax.specs.declared.token.Token.{Token}
@@ -19,7 +19,7 @@ use Rattle.erl_tokens.specs.Values.{IsInteger}
 use Rattle.erl_tokens.proofs.AllValues.{text_integers}
 use Rattle.module_laws.proofs.Characters.{AreBytes, AreSmall, bytes-take, bytes-drop, front_bytes, string_small, string_few, character_few}
 use Rattle.module_laws.proofs.ReadLiterals.{AreNear}
-use Rattle.module_laws.proofs.SpeltLiterals.{IsSmall, AreSmallWords}
+use Rattle.module_laws.proofs.FormLiterals.{IsSmall, AreSmallWords}
 
 -- ---- How many characters strings have
 
@@ -67,9 +67,9 @@ before_letters : (w : Word) (ws : List Word) → all_letters (before w ws) ≡ l
 before_letters w [] = refl
 before_letters w (v ∷ ws) = joined_letters (are_strings w.kind v.kind) w v ws refl
 
-all_joined : (ws : List Word) → all_letters (joined ws) ≡ all_letters ws
+all_joined : (ws : List Word) → all_letters (strings_joined ws) ≡ all_letters ws
 all_joined [] = refl
-all_joined (w ∷ ws) = omega (arith, before_letters w (joined ws), all_joined ws)
+all_joined (w ∷ ws) = omega (arith, before_letters w (strings_joined ws), all_joined ws)
 
 light_string : (kind : TokenKind) (n : ℕ) (cs : List ℕ) → kind ≡ k.Str → IsLight kind n cs → AreNear cs
 light_string kind n cs e h = subst (λ (u : TokenKind). IsLight u n cs) e h
@@ -88,9 +88,9 @@ before_light : (w : Word) (ws : List Word) → IsLight w.kind w.number w.chars �
 before_light w [] h g = (h, tt)
 before_light w (v ∷ ws) h g = joined_light (are_strings w.kind v.kind) w v ws refl h g
 
-all_light : (ws : List Word) → AreLight ws → AreLight (joined ws)
+all_light : (ws : List Word) → AreLight ws → AreLight (strings_joined ws)
 all_light [] h = tt
-all_light (w ∷ ws) h = before_light w (joined ws) h.0 (all_light ws h.1)
+all_light (w ∷ ws) h = before_light w (strings_joined ws) h.0 (all_light ws h.1)
 
 -- ---- The tokens of a text
 
@@ -162,4 +162,4 @@ module _ (text : List ℕ) (tokens : List Token) (short : length text ≤ longes
       let few : Few table text = subst (Few table) all_read (omega (arith, tokens_few (front text) table (is_cut text) 0 tokens None lexes)) in
       let integers = recursion_from_All (λ (token : Token). token.kind ≡ k.Integer → IsInteger (token_text text token)) tokens (text_integers text tokens lexes) in
       let ws : List Word = map (word_of text table) tokens in
-      light_small (joined ws) (omega (arith, all_joined ws, few, short)) (all_light ws (tokens_light text table tokens bytes integers))
+      light_small (strings_joined ws) (omega (arith, all_joined ws, few, short)) (all_light ws (tokens_light text table tokens bytes integers))

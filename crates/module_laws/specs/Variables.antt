@@ -1,12 +1,13 @@
 -- Where the variables of a module's trees stand.
 use Rattle.std.specs.Prelude.{ℕ, List, [], ◌∷◌, ◌++◌, map, Option, Some, None}
-use Rattle.std.specs.List.{All, flat_map}
+use Rattle.std.specs.List.{All}
 use Rattle.erl_syntax.specs.Checking.{RisingBy}
 use Rattle.erl_syntax.specs.Reading.{Reads}
 use Rattle.erl_syntax.specs.declared.span.Span.{Span}
 use Rattle.erl_syntax.specs.declared.expr.Expr.{Expr}
 use Rattle.erl_syntax.specs.declared.expr.Expr.TheOpen as O
 use Rattle.erl_syntax.specs.declared.expr.Expr.TheFolds.{fold-Expr, fold-Pattern, fold-Qual, fold-Alt, fold-Branch, fold-Guard, fold-Item, fold-Segment}
+use Rattle.erl_syntax.specs.Bindings.{joined}
 use Rattle.erl_syntax.specs.declared.pattern.Pattern.{Pattern}
 use Rattle.erl_syntax.specs.declared.qual.Qual.{Qual}
 use Rattle.erl_syntax.specs.declared.segment.Segment.{Segment}
@@ -17,9 +18,6 @@ use Rattle.erl_syntax.specs.declared.clause.Branch.{Branch}
 use Rattle.erl_syntax.specs.declared.module.Clause.{Clause}
 use Rattle.erl_syntax.specs.declared.module.Function.{Function}
 use Rattle.erl_syntax.specs.declared.module.Module.{Module}
-
-abbrev pub joined : List (List Span) → List Span
-joined xss = flat_map (λ xs. xs) xss
 
 abbrev pub expr_layer : O.Expr-F (List Span) (List Span) (List Span) (List Span) (List Span) (List Span) (List Span) (List Span) → List Span
 expr_layer (O.Expr::Var at name) = at ∷ []

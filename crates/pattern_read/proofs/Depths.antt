@@ -15,8 +15,8 @@ use Rattle.erl_syntax.specs.Grammar.{InBody, InSize, Context, under, inside, Lim
 use Rattle.pattern_read.specs.declared.placed.Placed.{Placed}
 use Rattle.pattern_read.specs.declared.fault.Cause.TheVariants.{Syntax, TooDeep}
 use Rattle.pattern_read.specs.Reading.{IsRefused, GoesOn, Follows, SameHead, closed}
-use Rattle.pattern_read.specs.Source.{Readable, StandsAt}
-use Rattle.pattern_read.specs.declared.source.Numbered.{Numbered}
+use Rattle.pattern_read.specs.Cursor.{Readable, StandsAt}
+use Rattle.pattern_read.specs.declared.cursor.Numbered.{Numbered}
 use Rattle.pattern_read.specs.Wanted.{extends, begins_size, tail_in, operand_in, exprs_in, NoMark, no_mark_end, no_mark, BeginsNoSize, NoSize, at_end, at_other, FirstCause, only_deeper, no_size}
 use Rattle.pattern_read.proofs.Passing.{spells_at}
 use Rattle.pattern_read.proofs.Levels.{extends_with}

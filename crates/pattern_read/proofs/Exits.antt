@@ -13,20 +13,20 @@ use Rattle.erl_syntax.specs.declared.expr.Prefix.{Prefix}
 use Rattle.erl_syntax.specs.Word.{Word}
 use Rattle.erl_syntax.specs.Operators.{operator_of, level_of, prefix_of}
 use Rattle.erl_syntax.specs.Grammar.{Mode, Context, InBody, InSize, under, inside, right_of, Goal}
-use Rattle.pattern_read.specs.Source.{StandsAt, number_of}
-use Rattle.pattern_read.specs.declared.source.Numbered.{Numbered}
+use Rattle.pattern_read.specs.Cursor.{StandsAt, number_of}
+use Rattle.pattern_read.specs.declared.cursor.Numbered.{Numbered}
 use Rattle.pattern_read.specs.declared.placed.Placed.{Placed}
 use Rattle.pattern_read.specs.declared.fault.Cause.{Cause}
 use Rattle.pattern_read.specs.declared.fault.Cause.TheVariants.{Syntax, TooDeep}
 use Rattle.pattern_read.specs.declared.fault.Fault.{Fault}
 use Rattle.pattern_read.specs.Reading.{Passes, IsRefused, Gives, closed}
-use Rattle.pattern_read.specs.Wanted.{calls, extends, level_in, tail_in, operand_in, after_atom_in, qualified_in, exprs_in, more_exprs_in, mark_in, joined, IsAt, AtomAt, ModuleAt, OperatorAt, NoMark, no_mark, NoModule, NoneInSize, NoneFollows, ended, other, Closes, at_end, at_other, FirstCause, only_deeper, no_size as no_size_there}
+use Rattle.pattern_read.specs.Wanted.{calls, extends, level_in, tail_in, operand_in, after_atom_in, qualified_in, exprs_in, more_exprs_in, mark_in, placed_binary, IsAt, AtomAt, ModuleAt, OperatorAt, NoMark, no_mark, NoModule, NoneInSize, NoneFollows, ended, other, Closes, at_end, at_other, FirstCause, only_deeper, no_size as no_size_there}
 use Rattle.pattern_read.proofs.Passing.{Within, same_kinds, closed_within, Behind, and_then, refused_after, first_of_two, at_token, refused_at, remade, fault_after, fault_first}
 use Rattle.pattern_read.proofs.Levels.{same_placed, same_pair, tighter, calls_within, on_level, on_operand, behind_level, tail_spelled, on_alone, on_right, on_left, behind_right, right_spelled}
 use Rattle.pattern_read.proofs.Operands.{on_variable, on_integer, on_character, on_atom, on_prefix, on_paren, on_macro, no_size, prefix_too_deep, paren_too_deep, macro_refused, behind_mark, mark_spelled}
 use Rattle.pattern_read.proofs.Calls.{on_call, call_too_deep, on_no_call, on_unqualified, on_qualified, name_refused, open_refused, remote_too_deep, on_no_exprs, expr_and_more, on_exprs, on_comma, on_end, more_refused, behind_expr, more_spelled}
 use Rattle.pattern_read.proofs.Depths.{operator_too_deep, exprs_too_deep, exprs_refused}
-use Rattle.pattern_read.specs.Source.{Readable}
+use Rattle.pattern_read.specs.Cursor.{Readable}
 use Rattle.erl_syntax.specs.Grammar.{Limits}
 
 -- one reader's answer is another's
@@ -62,13 +62,13 @@ tail_deep c n ws at y op s b = refused_at s.is (operator_too_deep n c y s.word (
 tail_right : (c : Context) (n : ℕ) (ws : Readable) (at : ℕ) (y : Placed Expr) (op : Op) → OperatorAt ws at n op → n < 4 → c.deep + y.height ≤ ws.limits.trees → Passes ws.limits {X = Expr × ℕ} {Y = Placed Expr} (extends n) (tail_in n c y) (drop at ws.words) (level_in (right_of n) (under c)) (drop (at + 1) ws.words) (λ z. (x.Binary y.at op (y.tree ∷ z.tree ∷ []), max y.height z.height + 1))
 tail_right c n ws at y op s h b = at_token s.is (on_right n c y s.word (drop (at + 1) ws.words) op h s.operator s.level (inr s.other) b)
 
-tail_left : (c : Context) (n : ℕ) (ws : Readable) (at : ℕ) (y : Placed Expr) (op : Op) → OperatorAt ws at n op → 4 ≤ n → c.deep + y.height ≤ ws.limits.trees → Passes ws.limits {X = Expr × ℕ} {Y = Placed Expr × (Expr × ℕ)} (extends n) (tail_in n c y) (drop at ws.words) (λ p. level_in (n + 1) (under c) p.0 ++ tail_in n c (joined y op p.0) p.1) (drop (at + 1) ws.words) (λ p. p.1)
+tail_left : (c : Context) (n : ℕ) (ws : Readable) (at : ℕ) (y : Placed Expr) (op : Op) → OperatorAt ws at n op → 4 ≤ n → c.deep + y.height ≤ ws.limits.trees → Passes ws.limits {X = Expr × ℕ} {Y = Placed Expr × (Expr × ℕ)} (extends n) (tail_in n c y) (drop at ws.words) (λ p. level_in (n + 1) (under c) p.0 ++ tail_in n c (placed_binary y op p.0) p.1) (drop (at + 1) ws.words) (λ p. p.1)
 tail_left c n ws at y op s h b = at_token s.is (on_left n c y s.word (drop (at + 1) ws.words) op h s.operator s.level b)
 
 pub tail_left_err : (c : Context) (n : ℕ) (ws : Readable) (at : ℕ) (y : Placed Expr) (op : Op) (f : Fault) → OperatorAt ws at n op → 4 ≤ n → c.deep + y.height ≤ ws.limits.trees → Gives (extends (n + 1)) (level_in (n + 1) (under c)) ws (at + 1) (Err f) → Gives (extends n) (tail_in n c y) ws at (Err f)
 tail_left_err c n ws at y op f s h b g = fault_after ws at (at + 1) f (same_kinds (extends n)) (tail_left c n ws at y op s h b) (fault_first (level_in (n + 1) (under c)) ws (at + 1) f (behind_right n c y op) (right_spelled n c y op) g)
 
-pub tail_left_then : (c : Context) (n : ℕ) (ws : Readable) (at next : ℕ) (y z : Placed Expr) (op : Op) (r : Result ((Expr × ℕ) × ℕ) Fault) → OperatorAt ws at n op → 4 ≤ n → c.deep + y.height ≤ ws.limits.trees → Gives (extends (n + 1)) (level_in (n + 1) (under c)) ws (at + 1) (Ok (z, next)) → Gives (extends n) (tail_in n c (joined y op z)) ws next r → Gives (extends n) (tail_in n c y) ws at r
+pub tail_left_then : (c : Context) (n : ℕ) (ws : Readable) (at next : ℕ) (y z : Placed Expr) (op : Op) (r : Result ((Expr × ℕ) × ℕ) Fault) → OperatorAt ws at n op → 4 ≤ n → c.deep + y.height ≤ ws.limits.trees → Gives (extends (n + 1)) (level_in (n + 1) (under c)) ws (at + 1) (Ok (z, next)) → Gives (extends n) (tail_in n c (placed_binary y op z)) ws next r → Gives (extends n) (tail_in n c y) ws at r
 tail_left_then c n ws at next y z op r s h b g t = gives_on ws at next r (same_kinds (extends n)) (and_then (same_kinds (extends n)) (tail_left c n ws at y op s h b) (first_of_two (behind_right n c y op) g)) t
 
 level_as : (c : Context) (ws : Readable) (at : ℕ) {m n : ℕ} (r : Result (Placed Expr × ℕ) Fault) → m ≡ n → Gives (extends m) (level_in m c) ws at r → Gives (extends n) (level_in n c) ws at r
@@ -86,10 +86,10 @@ right_err c n ws at y op f s h b g = fault_after ws at (at + 1) f (tighter n (ri
 pub tail_err : (c : Context) (n m : ℕ) (ws : Readable) (at : ℕ) (y : Placed Expr) (op : Op) (f : Fault) → OperatorAt ws at n op → m ≡ right_of n → c.deep + y.height ≤ ws.limits.trees → Gives (extends m) (level_in m (under c)) ws (at + 1) (Err f) → Gives (extends n) (tail_in n c y) ws at (Err f)
 tail_err c n m ws at y op f s e b g = elim (cases_lt n 4) [ inl h ↦ right_err c n ws at y op f s h b (level_as (under c) ws (at + 1) (Err f) e g) | inr h ↦ tail_left_err c n ws at y op f s h b (level_as (under c) ws (at + 1) (Err f) (e ∙ right_high n h) g) ]
 
-pub tail_right_ok : (c : Context) (n m : ℕ) (ws : Readable) (at next : ℕ) (y z j : Placed Expr) (op : Op) → OperatorAt ws at n op → n < 4 → m ≡ right_of n → c.deep + y.height ≤ ws.limits.trees → j ≡ joined y op z → Gives (extends m) (level_in m (under c)) ws (at + 1) (Ok (z, next)) → Gives (extends n) (tail_in n c y) ws at (Ok ((j.tree, j.height), next))
+pub tail_right_ok : (c : Context) (n m : ℕ) (ws : Readable) (at next : ℕ) (y z j : Placed Expr) (op : Op) → OperatorAt ws at n op → n < 4 → m ≡ right_of n → c.deep + y.height ≤ ws.limits.trees → j ≡ placed_binary y op z → Gives (extends m) (level_in m (under c)) ws (at + 1) (Ok (z, next)) → Gives (extends n) (tail_in n c y) ws at (Ok ((j.tree, j.height), next))
 tail_right_ok c n m ws at next y z j op s h e b i g = remade (λ u. ap (λ v. (v.tree, v.height)) (sym i)) (and_then (tighter n (right_of n) (right_low n)) (tail_right c n ws at y op s h b) (level_as (under c) ws (at + 1) (Ok (z, next)) e g))
 
-pub tail_left_ok : (c : Context) (n m : ℕ) (ws : Readable) (at next : ℕ) (y z j : Placed Expr) (op : Op) (r : Result ((Expr × ℕ) × ℕ) Fault) → OperatorAt ws at n op → 4 ≤ n → m ≡ right_of n → c.deep + y.height ≤ ws.limits.trees → j ≡ joined y op z → Gives (extends m) (level_in m (under c)) ws (at + 1) (Ok (z, next)) → Gives (extends n) (tail_in n c j) ws next r → Gives (extends n) (tail_in n c y) ws at r
+pub tail_left_ok : (c : Context) (n m : ℕ) (ws : Readable) (at next : ℕ) (y z j : Placed Expr) (op : Op) (r : Result ((Expr × ℕ) × ℕ) Fault) → OperatorAt ws at n op → 4 ≤ n → m ≡ right_of n → c.deep + y.height ≤ ws.limits.trees → j ≡ placed_binary y op z → Gives (extends m) (level_in m (under c)) ws (at + 1) (Ok (z, next)) → Gives (extends n) (tail_in n c j) ws next r → Gives (extends n) (tail_in n c y) ws at r
 tail_left_ok c n m ws at next y z j op r s h e b i g t = let P : Placed Expr → Type 0 = λ v. Gives (extends n) (tail_in n c v) ws next r in tail_left_then c n ws at next y z op r s h b (level_as (under c) ws (at + 1) (Ok (z, next)) (e ∙ right_high n h) g) (subst P i t)
 
 -- ---- Operands

@@ -2,8 +2,8 @@
 use Rattle.std.proofs.Common.{◌≡◌, ℕ, Bool, true, false, List, [], ◌+◌, drop, sym, ap, subst, ◌∙◌}
 use Rattle.erl_syntax.specs.Word.{Word}
 use Rattle.erl_syntax.specs.declared.token.TokenKind.{TokenKind}
-use Rattle.pattern_read.specs.Source.{Readable, StandsAt}
-use Rattle.pattern_read.specs.declared.source.Numbered.{Numbered}
+use Rattle.pattern_read.specs.Cursor.{Readable, StandsAt}
+use Rattle.pattern_read.specs.declared.cursor.Numbered.{Numbered}
 use Rattle.pattern_read.specs.declared.fault.Cause.TheVariants.{Syntax, TooDeep}
 use Rattle.pattern_read.specs.WantedPatterns.{FirstToken, only_deeper, at_end, at_other}
 

@@ -6,8 +6,8 @@ use Rattle.erl_syntax.specs.declared.pattern.Pattern.{Pattern}
 use Rattle.erl_syntax.specs.declared.pattern.Pattern.TheVariants as p
 use Rattle.erl_syntax.specs.Names.{Signed}
 use Rattle.erl_syntax.specs.Grammar.{Context}
-use Rattle.pattern_read.specs.Source.{StandsAt, number_of}
-use Rattle.pattern_read.specs.declared.source.Numbered.{Numbered}
+use Rattle.pattern_read.specs.Cursor.{StandsAt, number_of}
+use Rattle.pattern_read.specs.declared.cursor.Numbered.{Numbered}
 use Rattle.pattern_read.specs.declared.placed.Placed.{Placed}
 use Rattle.pattern_read.specs.declared.fault.Cause.TheVariants.{Syntax}
 use Rattle.pattern_read.specs.Reading.{IsRefused, Gives, closed}
@@ -16,7 +16,7 @@ use Rattle.pattern_read.specs.WantedPatterns.{begins_pattern, opens_pattern, pat
 use Rattle.pattern_read.proofs.Passing.{at_token, refused_at, remade}
 use Rattle.pattern_read.proofs.Pats.{same_pat, on_variable, on_wild, on_integer, on_character, on_atom, on_string}
 use Rattle.pattern_read.proofs.PatBegins.{is_sign, on_signed, sign_alone, no_pattern, no_pattern_end, pat_refused}
-use Rattle.pattern_read.specs.Source.{Readable}
+use Rattle.pattern_read.specs.Cursor.{Readable}
 
 pub leaf_variable : (c : Context) (ws : Readable) (at : ℕ) (n : Numbered) (name : List ℕ) → (s : StandsAt ws at n) → n.token.kind ≡ k.Variable → name ≡ s.word.chars → Gives closed (pat_in c) ws at (Ok (record { at = n.token.span; tree = p.Var n.token.span name; height = 1 }, at + 1))
 leaf_variable c ws at n name s h e = remade (λ u. same_pat s.place (ap (λ v. p.Var v s.word.chars) s.place ∙ ap (λ v. p.Var n.token.span v) (sym e)) refl) (at_token s.is (on_variable c s.word (drop (at + 1) ws.words) (s.kind ∙ h)))

@@ -114,13 +114,13 @@ on_alone n c y rest h = record {
   forth = λ l r gs w f s d. let m = alone_forth l n c y.at y.tree y.height r.0 r.1 gs rest w h s d in (tt, same_pair m.0 m.1, m.2);
 }
 
-abbrev joined : Span → Op → Expr → Expr → Expr
-joined at op y z = x.Binary at op (y ∷ z ∷ [])
+abbrev placed_binary : Span → Op → Expr → Expr → Expr
+placed_binary at op y z = x.Binary at op (y ∷ z ∷ [])
 
 right_forth : (l : Limits) (n : ℕ) (c : Context) (at : Span) (y : Expr) (dy : ℕ) (e : Expr) (d : ℕ) (gs : List Goal) (j : Word) (w : List Word) (op : Op) → n < 4 → operator_of j.kind ≡ Some op → level_of op ≡ n → Follows l (extends n) gs → Spells l (Of (Tail n c at y dy e d) ∷ gs) (j ∷ w) →
-    (z : Placed Expr) × (e ≡ joined at op y z.tree) × (d ≡ max dy z.height + 1) × Spells l (Of (Level (right_of n) (under c) z.at z.tree z.height) ∷ gs) w
+    (z : Placed Expr) × (e ≡ placed_binary at op y z.tree) × (d ≡ max dy z.height + 1) × Spells l (Of (Level (right_of n) (under c) z.at z.tree z.height) ∷ gs) w
 right_forth l n c at y dy e d gs j w op h i a f (expands _ (alone n_0 c_0 at_0 y_0 dy_0 e_0 d_0 q0 q1) z) = absurd (f j w (extends_with n j.kind i (omega (arith, a))) z)
-right_forth l n c at y dy e d gs j w op h i a f (expands _ (right n_0 c_0 at_0 y_0 dy_0 e_0 d_0 u op_0 az r dr q0 q1 q2 q3 q4 q5 q6) (this z)) = (record { at = az; tree = r; height = dr }, q5 ∙ ap (λ v. joined at v y r) (one_operator q1 i), q6, z)
+right_forth l n c at y dy e d gs j w op h i a f (expands _ (right n_0 c_0 at_0 y_0 dy_0 e_0 d_0 u op_0 az r dr q0 q1 q2 q3 q4 q5 q6) (this z)) = (record { at = az; tree = r; height = dr }, q5 ∙ ap (λ v. placed_binary at v y r) (one_operator q1 i), q6, z)
 right_forth l n c at y dy e d gs j w op h i a f (expands _ (left n_0 c_0 at_0 y_0 dy_0 e_0 d_0 u op_0 az r dr q0 q1 q2 q3) (this z)) = absurd (omega arith)
 
 pub on_right : {most : Limits} (n : ℕ) (c : Context) (y : Placed Expr) (j : Word) (rest : List Word) (op : Op) → n < 4 → operator_of j.kind ≡ Some op → level_of op ≡ n → (c.mode ≡ InBody ⊎ op ≢ o.Send) → c.deep + y.height ≤ most.trees →
@@ -133,11 +133,11 @@ on_right n c y j rest op h i a m b = record {
 }
 
 left_forth : (l : Limits) (n : ℕ) (c : Context) (at : Span) (y : Expr) (dy : ℕ) (e : Expr) (d : ℕ) (gs : List Goal) (j : Word) (w : List Word) (op : Op) → 4 ≤ n → operator_of j.kind ≡ Some op → level_of op ≡ n → Follows l (extends n) gs → Spells l (Of (Tail n c at y dy e d) ∷ gs) (j ∷ w) →
-    (z : Placed Expr) × Spells l (Of (Level (n + 1) (under c) z.at z.tree z.height) ∷ Of (Tail n c at (joined at op y z.tree) (max dy z.height + 1) e d) ∷ gs) w
+    (z : Placed Expr) × Spells l (Of (Level (n + 1) (under c) z.at z.tree z.height) ∷ Of (Tail n c at (placed_binary at op y z.tree) (max dy z.height + 1) e d) ∷ gs) w
 left_forth l n c at y dy e d gs j w op h i a f (expands _ (alone n_0 c_0 at_0 y_0 dy_0 e_0 d_0 q0 q1) z) = absurd (f j w (extends_with n j.kind i (omega (arith, a))) z)
 left_forth l n c at y dy e d gs j w op h i a f (expands _ (right n_0 c_0 at_0 y_0 dy_0 e_0 d_0 u op_0 az r dr q0 q1 q2 q3 q4 q5 q6) (this z)) = absurd (omega arith)
 left_forth l n c at y dy e d gs j w op h i a f (expands _ (left n_0 c_0 at_0 y_0 dy_0 e_0 d_0 u op_0 az r dr q0 q1 q2 q3) (this z)) =
-    let P : Op → Type 0 = λ v. Spells l (Of (Level (n + 1) (under c) az r dr) ∷ Of (Tail n c at (joined at v y r) (max dy dr + 1) e d) ∷ gs) w in
+    let P : Op → Type 0 = λ v. Spells l (Of (Level (n + 1) (under c) az r dr) ∷ Of (Tail n c at (placed_binary at v y r) (max dy dr + 1) e d) ∷ gs) w in
     (record { at = az; tree = r; height = dr }, subst P (one_operator q1 i) z)
 
 pub on_left : {most : Limits} (n : ℕ) (c : Context) (y : Placed Expr) (j : Word) (rest : List Word) (op : Op) → 4 ≤ n → operator_of j.kind ≡ Some op → level_of op ≡ n → c.deep + y.height ≤ most.trees →

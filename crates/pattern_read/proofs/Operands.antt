@@ -17,7 +17,7 @@ use Rattle.pattern_read.specs.Reading.{Passes, IsRefused, IsWide, SameHead, clos
 use Rattle.pattern_read.specs.Wanted.{calls, level_in, operand_in, after_atom_in, qualified_in, mark_in, IsAt, NoMark, no_mark_end, no_mark, NoModule, no_word, no_module, NoSize, at_end, at_other}
 use Rattle.pattern_read.proofs.Passing.{Behind, Spelled}
 use Rattle.pattern_read.proofs.Levels.{same_placed, no_prefix}
-use Rattle.pattern_read.specs.Source.{Readable}
+use Rattle.pattern_read.specs.Cursor.{Readable}
 
 one_prefix : {found : Option Prefix} {p q : Prefix} → found ≡ Some p → found ≡ Some q → p ≡ q
 one_prefix a b = cc

@@ -8,7 +8,7 @@ use Rattle.pattern_read.specs.declared.fault.Fault.TheVariants.{Memory, Refused}
 use Rattle.pattern_read.specs.declared.fault.Cause.{Cause}
 use Rattle.pattern_read.specs.declared.fault.Cause.TheVariants.{Syntax, TooDeep, UnknownAttribute, UnknownSegmentType, Undecided}
 use Rattle.pattern_read.specs.Reading.{Passes, IsRefused, GoesOn, Excused, IsWide, Follows, SameHead, closed, nothing, Gives}
-use Rattle.pattern_read.specs.Source.{Readable}
+use Rattle.pattern_read.specs.Cursor.{Readable}
 
 pub same_front : (f w z : List Word) → SameHead w z → SameHead (f ++ w) (f ++ z)
 same_front [] w z s = s

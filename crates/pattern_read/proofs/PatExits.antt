@@ -6,8 +6,8 @@ use Rattle.erl_syntax.specs.declared.pattern.Pattern.{Pattern}
 use Rattle.erl_syntax.specs.declared.pattern.Pattern.TheVariants as p
 use Rattle.erl_syntax.specs.declared.segment.Segment.{Segment}
 use Rattle.erl_syntax.specs.Grammar.{Context, under, inside}
-use Rattle.pattern_read.specs.Source.{StandsAt}
-use Rattle.pattern_read.specs.declared.source.Numbered.{Numbered}
+use Rattle.pattern_read.specs.Cursor.{StandsAt}
+use Rattle.pattern_read.specs.declared.cursor.Numbered.{Numbered}
 use Rattle.pattern_read.specs.declared.placed.Placed.{Placed}
 use Rattle.pattern_read.specs.declared.fault.Fault.{Fault}
 use Rattle.pattern_read.specs.declared.fault.Cause.TheVariants.{Syntax, TooDeep}
@@ -21,7 +21,7 @@ use Rattle.pattern_read.proofs.Pats.{same_pat, on_brace, on_bracket, on_bits}
 use Rattle.pattern_read.proofs.PatBegins.{on_paren, bracket_too_deep}
 use Rattle.pattern_read.proofs.PatLists.{more_patterns_in, on_no_patterns, pattern_and_more, on_patterns, on_comma, on_end, more_refused, behind_pattern, more_spelled}
 use Rattle.pattern_read.proofs.PatTails.{on_pattern, behind_pat, same_spelled, on_alone, more_same_in, pat_and_more, on_match, on_again, on_last, behind_same, more_same_spelled, match_too_deep, items_in, pattern_and_items, Listed, on_empty, on_items, on_next, on_stop, on_shut, on_bar, end_refused, behind_item, items_spelled}
-use Rattle.pattern_read.specs.Source.{Readable}
+use Rattle.pattern_read.specs.Cursor.{Readable}
 
 -- ---- Patterns and chains
 

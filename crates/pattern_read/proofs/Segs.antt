@@ -8,8 +8,8 @@ use Rattle.erl_syntax.specs.declared.expr.Expr.TheVariants as x
 use Rattle.erl_syntax.specs.declared.segment.Segment.{Segment}
 use Rattle.erl_syntax.specs.Word.{Word}
 use Rattle.erl_syntax.specs.Grammar.{Context, under, inside, Limits, Goal, Mark, Of, Level, SegmentType, PatternBits, MorePatternSegments, PatternSegment, PatternSegmentRest, PatternSize, typed, untyped, no_pattern_bits, pattern_bits, more_pattern_segments, end_pattern_segments, pattern_segment, pattern_sized, pattern_unsized, size_integer, size_variable, size_paren, Spells, takes, this, expands}
-use Rattle.pattern_read.specs.Source.{StandsAt, number_of}
-use Rattle.pattern_read.specs.declared.source.Numbered.{Numbered}
+use Rattle.pattern_read.specs.Cursor.{StandsAt, number_of}
+use Rattle.pattern_read.specs.declared.cursor.Numbered.{Numbered}
 use Rattle.pattern_read.specs.declared.placed.Placed.{Placed}
 use Rattle.pattern_read.specs.declared.fault.Fault.{Fault}
 use Rattle.pattern_read.specs.declared.fault.Cause.{Cause}
@@ -21,7 +21,7 @@ use Rattle.pattern_read.proofs.Passing.{Within, same_kinds, Behind, behind_close
 use Rattle.pattern_read.proofs.Levels.{same_pair}
 use Rattle.pattern_read.proofs.Operands.{behind_mark, mark_spelled, mark_word, some_place, some_word, level_completed, deeper, deeper_wide}
 use Rattle.pattern_read.proofs.Values.{value_none, NoValue, no_value, no_value_there, Begun, begun}
-use Rattle.pattern_read.specs.Source.{Readable}
+use Rattle.pattern_read.specs.Cursor.{Readable}
 
 -- ---- Sizes
 

@@ -10,8 +10,8 @@ use Rattle.erl_syntax.specs.declared.segment.Spec.TheVariants as sx
 use Rattle.erl_syntax.specs.Word.{Word}
 use Rattle.erl_syntax.specs.Names.{Names, integer, unit_word}
 use Rattle.erl_syntax.specs.Grammar.{Limits, Goal, Mark, The, Of, SegmentType, ASpec, MoreSpecs, typed, untyped, more_specs, end_specs, spec, unit, any_spec, Spells, takes, this, expands}
-use Rattle.pattern_read.specs.Source.{StandsAt, number_of}
-use Rattle.pattern_read.specs.declared.source.Numbered.{Numbered}
+use Rattle.pattern_read.specs.Cursor.{StandsAt, number_of}
+use Rattle.pattern_read.specs.declared.cursor.Numbered.{Numbered}
 use Rattle.pattern_read.specs.declared.fault.Fault.{Fault}
 use Rattle.pattern_read.specs.declared.fault.Cause.TheVariants.{Syntax, UnknownSegmentType}
 use Rattle.pattern_read.specs.Reading.{Passes, IsRefused, Follows, SameHead, Gives, closed, nothing}
@@ -20,7 +20,7 @@ use Rattle.pattern_read.specs.WantedPatterns.{UnitAt, goes_typed, segment_type_i
 use Rattle.pattern_read.proofs.Passing.{Behind, behind_closed, Spelled, same_kinds, and_then, first_of_two, at_token, refused_at, remade, fault_after, fault_first}
 use Rattle.pattern_read.proofs.Operands.{mark_word, some_place}
 use Rattle.pattern_read.proofs.SpecWords.{one_word, not_unit}
-use Rattle.pattern_read.specs.Source.{Readable}
+use Rattle.pattern_read.specs.Cursor.{Readable}
 
 -- ---- Words
 

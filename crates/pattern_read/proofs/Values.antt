@@ -10,8 +10,8 @@ use Rattle.erl_syntax.specs.declared.expr.Prefix.TheVariants as f
 use Rattle.erl_syntax.specs.Word.{Word}
 use Rattle.erl_syntax.specs.Operators.{prefix_of}
 use Rattle.erl_syntax.specs.Grammar.{Context, Limits, Goal, The, Of, PatternValue, value_variable, value_wild, value_integer, value_signed, value_character, value_string, Spells, begins, this, expands}
-use Rattle.pattern_read.specs.Source.{StandsAt, number_of}
-use Rattle.pattern_read.specs.declared.source.Numbered.{Numbered}
+use Rattle.pattern_read.specs.Cursor.{StandsAt, number_of}
+use Rattle.pattern_read.specs.declared.cursor.Numbered.{Numbered}
 use Rattle.pattern_read.specs.declared.placed.Placed.{Placed}
 use Rattle.pattern_read.specs.declared.fault.Cause.TheVariants.{Syntax, TooDeep}
 use Rattle.pattern_read.specs.Reading.{Passes, IsRefused, SameHead, Gives, closed, nothing}
@@ -21,7 +21,7 @@ use Rattle.pattern_read.proofs.Passing.{at_token, refused_at, remade}
 use Rattle.pattern_read.proofs.Levels.{same_placed}
 use Rattle.pattern_read.proofs.Operands.{mark_word, some_place, deeper, deeper_wide}
 use Rattle.pattern_read.proofs.PatBegins.{is_sign, some_number}
-use Rattle.pattern_read.specs.Source.{Readable}
+use Rattle.pattern_read.specs.Cursor.{Readable}
 
 one_prefix : {found : Option Prefix} {p q : Prefix} → found ≡ Some p → found ≡ Some q → p ≡ q
 one_prefix a b = cc

@@ -7,13 +7,13 @@ use Rattle.std.proofs.lemmas.List.{drop-map, length-map, take-map}
 use Rattle.erl_syntax.specs.Word.{Word}
 use Rattle.erl_syntax.specs.declared.token.TokenKind.{TokenKind}
 use Rattle.erl_syntax.specs.declared.token.TokenKind.TheVariants as k
-use Rattle.pattern_read.specs.Source.{words, word_of, number_of, characters_of, characters_in, StandsAt}
+use Rattle.pattern_read.specs.Cursor.{words, word_of, number_of, characters_of, characters_in, StandsAt}
 use Rattle.erl_syntax.specs.Names.{module_macro}
 use Rattle.erl_syntax.specs.Tokens.{token_text}
 use Rattle.erl_syntax.specs.Characters.{atom_text}
 use Rattle.pattern_read.specs.Wanted.{IsAt, AtomAt, ModuleAt, NoMark, no_mark, no_mark_end, NoModule, no_word, no_module}
-use Rattle.pattern_read.specs.declared.source.Numbered.{Numbered}
-use Rattle.pattern_read.specs.Source.{Readable}
+use Rattle.pattern_read.specs.declared.cursor.Numbered.{Numbered}
+use Rattle.pattern_read.specs.Cursor.{Readable}
 
 words_from : (text : List ℕ) (strings : List (List ℕ)) (ns : List Numbered) (i : ℕ) (n : Numbered) → i < length ns → get_or ns i n ≡ n → drop i (words text strings ns) ≡ word_of text strings n ∷ drop (i + 1) (words text strings ns)
 words_from text strings ns i n h e =

@@ -1,4 +1,4 @@
 pub mod Reading
-pub mod Source
+pub mod Cursor
 pub mod Wanted
 pub mod WantedPatterns

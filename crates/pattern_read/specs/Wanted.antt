@@ -14,7 +14,7 @@ use Rattle.erl_syntax.specs.declared.expr.Op.TheVariants as o
 use Rattle.pattern_read.specs.declared.fault.Cause.{Cause}
 use Rattle.pattern_read.specs.declared.fault.Cause.TheVariants.{Syntax, TooDeep}
 use Rattle.pattern_read.specs.declared.placed.Placed.{Placed}
-use Rattle.pattern_read.specs.Source.{Readable}
+use Rattle.pattern_read.specs.Cursor.{Readable}
 
 -- in a size of a pattern
 abbrev pub in_size : ℕ → ℕ → Context
@@ -95,8 +95,8 @@ abbrev pub more_exprs_in : TokenKind → Context → List Expr × ℕ → List G
 more_exprs_in close c r = Of (MoreExprs close c r.0 r.1) ∷ []
 
 -- an operator between two parts
-abbrev pub joined : Placed Expr → Op → Placed Expr → Placed Expr
-joined left op right = record { at = left.at; tree = x.Binary left.at op (left.tree ∷ right.tree ∷ []); height = max left.height right.height + 1 }
+abbrev pub placed_binary : Placed Expr → Op → Placed Expr → Placed Expr
+placed_binary left op right = record { at = left.at; tree = x.Binary left.at op (left.tree ∷ right.tree ∷ []); height = max left.height right.height + 1 }
 
 abbrev pub mark_in : TokenKind → Unit {0} → List Goal
 mark_in kind u = Mark kind ∷ []

@@ -13,7 +13,7 @@ use Rattle.erl_syntax.specs.declared.segment.Spec.{Spec}
 use Rattle.pattern_read.specs.declared.fault.Cause.{Cause}
 use Rattle.pattern_read.specs.declared.fault.Cause.TheVariants.{Syntax, TooDeep}
 use Rattle.pattern_read.specs.declared.placed.Placed.{Placed}
-use Rattle.pattern_read.specs.Source.{Readable}
+use Rattle.pattern_read.specs.Cursor.{Readable}
 
 -- a pattern begins with one of these brackets
 abbrev pub opens_pattern : TokenKind → Bool

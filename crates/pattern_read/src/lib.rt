@@ -2,6 +2,7 @@
 //! token with which no pattern can go on.
 #![tactic(auto)]
 
+pub mod cursor;
 pub mod fault;
 pub mod operators;
 mod pattern_leaves;
@@ -11,4 +12,3 @@ pub mod patterns;
 pub mod placed;
 pub mod segment_types;
 pub mod sizes;
-pub mod source;

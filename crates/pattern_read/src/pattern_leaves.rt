@@ -4,12 +4,12 @@ ghost use Rattle.erl_syntax.specs.Grammar.{Context};
 ghost use Rattle.erl_syntax.specs.Names.{Signed};
 ghost use Rattle.erl_syntax.specs.Operators.{prefix_of};
 ghost use Rattle.pattern_read.specs.Reading.{Gives, closed};
-ghost use Rattle.pattern_read.specs.Source.{StandsAt};
+ghost use Rattle.pattern_read.specs.Cursor.{StandsAt};
 ghost use Rattle.pattern_read.specs.WantedPatterns.{opens_pattern, pat_in, pattern_value_in};
 
+use crate::cursor::{Cursor, Numbered};
 use crate::fault::{Cause, Fault};
 use crate::placed::Placed;
-use crate::source::{Numbered, Source};
 use erl_syntax::{Expr, Listed, Pattern, Prefix, TokenKind};
 use std::alloc::Global;
 
@@ -29,19 +29,19 @@ fn signed(sign: TokenKind, digits: &Numbered) -> i128
 
 /// A sign and an integer, as a pattern.
 fn signed_pattern(
-    source: &Source,
+    cursor: &Cursor,
     at: usize,
     numbered: Numbered,
 ) -> Result<(Placed<Pattern>, usize), Fault>
-    requires stands { StandsAt source.now at numbered }
-    requires within { at < length source.now.words }
-    requires short { length source.now.words < 2 ^ 64 }
+    requires stands { StandsAt cursor.now at numbered }
+    requires within { at < length cursor.now.words }
+    requires short { length cursor.now.words < 2 ^ 64 }
     requires sign { numbered.token.kind ≡ k.Plus ⊎ numbered.token.kind ≡ k.Minus }
-    ensures reads { (c : Context) → Gives closed (pat_in c) source.now at result }
-    ensures further { IfOk result (λ r. at < r.1 × (r.1 ≤ length source.now.words)) }
+    ensures reads { (c : Context) → Gives closed (pat_in c) cursor.now at result }
+    ensures further { IfOk result (λ r. at < r.1 × (r.1 ≤ length cursor.now.words)) }
     ensures flat { IfOk result (λ r. r.0.height ≡ 1) }
 {
-    let Some(digits) = source.token(at + 1) else {
+    let Some(digits) = cursor.token(at + 1) else {
         return Err(Fault::Refused(at + 1, Cause::Syntax));
     };
     if digits.token.kind == TokenKind::Integer {
@@ -61,24 +61,24 @@ fn signed_pattern(
 /// A pattern that begins with no bracket, at that token.
 pub(crate) fn leaf(
     alloc: Global,
-    source: &Source,
+    cursor: &Cursor,
     at: usize,
     numbered: Numbered,
 ) -> Result<(Placed<Pattern>, usize), Fault>
-    requires stands { StandsAt source.now at numbered }
-    requires within { at < length source.now.words }
-    requires short { length source.now.words < 2 ^ 64 }
+    requires stands { StandsAt cursor.now at numbered }
+    requires within { at < length cursor.now.words }
+    requires short { length cursor.now.words < 2 ^ 64 }
     requires narrow { numbered.value < 2 ^ 127 }
     requires bare { opens_pattern numbered.token.kind ≡ false }
-    ensures reads { (c : Context) → Gives closed (pat_in c) source.now at result }
-    ensures further { IfOk result (λ r. at < r.1 × (r.1 ≤ length source.now.words)) }
+    ensures reads { (c : Context) → Gives closed (pat_in c) cursor.now at result }
+    ensures further { IfOk result (λ r. at < r.1 × (r.1 ≤ length cursor.now.words)) }
     ensures flat { IfOk result (λ r. r.0.height ≡ 1) }
 {
     let place = numbered.token.span;
     let height = 1;
     match numbered.token.kind {
         TokenKind::Variable => {
-            let name = source.name(alloc, at)?;
+            let name = cursor.name(alloc, at)?;
             let tree = Pattern::Var { at: place, name };
             Ok((
                 Placed {
@@ -112,7 +112,7 @@ pub(crate) fn leaf(
                 at + 1,
             ))
         }
-        TokenKind::Plus | TokenKind::Minus => signed_pattern(source, at, numbered),
+        TokenKind::Plus | TokenKind::Minus => signed_pattern(cursor, at, numbered),
         TokenKind::Character => {
             let value = numbered.number;
             let tree = Pattern::Char { at: place, value };
@@ -138,7 +138,7 @@ pub(crate) fn leaf(
             ))
         }
         TokenKind::Str => {
-            let chars = source.string(alloc, at)?;
+            let chars = cursor.string(alloc, at)?;
             let tree = Pattern::Str { at: place, chars };
             Ok((
                 Placed {
@@ -156,25 +156,25 @@ pub(crate) fn leaf(
 /// A sign and an integer, as the value of a segment of a pattern.
 fn signed_value(
     alloc: Global,
-    source: &Source,
+    cursor: &Cursor,
     at: usize,
     deep: usize,
     numbered: Numbered,
     op: Prefix,
 ) -> Result<(Placed<Expr>, usize), Fault>
-    requires stands { StandsAt source.now at numbered }
-    requires within { at < length source.now.words }
-    requires short { length source.now.words < 2 ^ 64 }
+    requires stands { StandsAt cursor.now at numbered }
+    requires within { at < length cursor.now.words }
+    requires short { length cursor.now.words < 2 ^ 64 }
     requires sign { numbered.token.kind ≡ k.Plus ⊎ numbered.token.kind ≡ k.Minus }
     requires prefix { prefix_of numbered.token.kind ≡ Some op }
-    ensures reads { (c : Context) → c.deep ≡ deep → Gives closed (pattern_value_in c) source.now at result }
-    ensures further { IfOk result (λ r. at < r.1 × (r.1 ≤ length source.now.words)) }
-    ensures bounded { IfOk result (λ r. (1 ≤ r.0.height) × (deep + r.0.height ≤ source.now.limits.trees + 1)) }
+    ensures reads { (c : Context) → c.deep ≡ deep → Gives closed (pattern_value_in c) cursor.now at result }
+    ensures further { IfOk result (λ r. at < r.1 × (r.1 ≤ length cursor.now.words)) }
+    ensures bounded { IfOk result (λ r. (1 ≤ r.0.height) × (deep + r.0.height ≤ cursor.now.limits.trees + 1)) }
 {
-    if deep >= source.trees() {
+    if deep >= cursor.trees() {
         return Err(Fault::Refused(at, Cause::TooDeep));
     }
-    let Some(digits) = source.token(at + 1) else {
+    let Some(digits) = cursor.token(at + 1) else {
         return Err(Fault::Refused(at + 1, Cause::Syntax));
     };
     if digits.token.kind == TokenKind::Integer {
@@ -203,24 +203,24 @@ fn signed_value(
 /// The value of a segment of a pattern.
 pub(crate) fn pattern_value(
     alloc: Global,
-    source: &Source,
+    cursor: &Cursor,
     at: usize,
     deep: usize,
 ) -> Result<(Placed<Expr>, usize), Fault>
-    requires place { at ≤ length source.now.words }
-    requires tree { deep ≤ source.now.limits.trees }
-    ensures reads { (c : Context) → c.deep ≡ deep → Gives closed (pattern_value_in c) source.now at result }
-    ensures further { IfOk result (λ r. at < r.1 × (r.1 ≤ length source.now.words)) }
-    ensures bounded { IfOk result (λ r. (1 ≤ r.0.height) × (deep + r.0.height ≤ source.now.limits.trees + 1)) }
+    requires place { at ≤ length cursor.now.words }
+    requires tree { deep ≤ cursor.now.limits.trees }
+    ensures reads { (c : Context) → c.deep ≡ deep → Gives closed (pattern_value_in c) cursor.now at result }
+    ensures further { IfOk result (λ r. at < r.1 × (r.1 ≤ length cursor.now.words)) }
+    ensures bounded { IfOk result (λ r. (1 ≤ r.0.height) × (deep + r.0.height ≤ cursor.now.limits.trees + 1)) }
 {
-    let Some(numbered) = source.token(at) else {
+    let Some(numbered) = cursor.token(at) else {
         return Err(Fault::Refused(at, Cause::Syntax));
     };
     let place = numbered.token.span;
     let height = 1;
     match numbered.token.kind {
         TokenKind::Variable => {
-            let name = source.name(alloc, at)?;
+            let name = cursor.name(alloc, at)?;
             let tree = Expr::Var { at: place, name };
             Ok((
                 Placed {
@@ -254,8 +254,8 @@ pub(crate) fn pattern_value(
                 at + 1,
             ))
         }
-        TokenKind::Plus => signed_value(alloc, source, at, deep, numbered, Prefix::Plus),
-        TokenKind::Minus => signed_value(alloc, source, at, deep, numbered, Prefix::Minus),
+        TokenKind::Plus => signed_value(alloc, cursor, at, deep, numbered, Prefix::Plus),
+        TokenKind::Minus => signed_value(alloc, cursor, at, deep, numbered, Prefix::Minus),
         TokenKind::Character => {
             let value = numbered.number;
             let tree = Expr::Char { at: place, value };
@@ -269,7 +269,7 @@ pub(crate) fn pattern_value(
             ))
         }
         TokenKind::Str => {
-            let chars = source.string(alloc, at)?;
+            let chars = cursor.string(alloc, at)?;
             let tree = Expr::Str { at: place, chars };
             Ok((
                 Placed {

@@ -1,8 +1,8 @@
 ghost use Rattle.std.specs.Prelude.{◌≡◌, ◌≤◌, length, drop};
 ghost use Rattle.pattern_read.specs.WantedPatterns.{begins_pattern, begins_value, opens_pattern, FirstToken};
 
+use crate::cursor::Cursor;
 use crate::fault::Cause;
-use crate::source::Source;
 use erl_syntax::TokenKind;
 
 /// Whether a pattern that begins so begins with a bracket.
@@ -53,11 +53,11 @@ fn begins_pattern(kind: TokenKind) -> bool
 }
 
 /// Why no pattern stands where it would be too deep.
-pub(crate) fn pattern_cause(source: &Source, at: usize) -> Cause
-    requires { at ≤ length source.now.words }
-    ensures { FirstToken begins_pattern (drop at source.now.words) result }
+pub(crate) fn pattern_cause(cursor: &Cursor, at: usize) -> Cause
+    requires { at ≤ length cursor.now.words }
+    ensures { FirstToken begins_pattern (drop at cursor.now.words) result }
 {
-    let Some(numbered) = source.token(at) else {
+    let Some(numbered) = cursor.token(at) else {
         return Cause::Syntax;
     };
     if begins_pattern(numbered.token.kind) {
@@ -68,11 +68,11 @@ pub(crate) fn pattern_cause(source: &Source, at: usize) -> Cause
 }
 
 /// Why no segment of a pattern stands where it would be too deep.
-pub(crate) fn value_cause(source: &Source, at: usize) -> Cause
-    requires { at ≤ length source.now.words }
-    ensures { FirstToken begins_value (drop at source.now.words) result }
+pub(crate) fn value_cause(cursor: &Cursor, at: usize) -> Cause
+    requires { at ≤ length cursor.now.words }
+    ensures { FirstToken begins_value (drop at cursor.now.words) result }
 {
-    let Some(numbered) = source.token(at) else {
+    let Some(numbered) = cursor.token(at) else {
         return Cause::Syntax;
     };
     if begins_value(numbered.token.kind) {

@@ -4,8 +4,8 @@ ghost use Rattle.erl_syntax.specs.declared.segment.Spec.{Spec};
 ghost use Rattle.pattern_read.specs.Reading.{Gives, closed};
 ghost use Rattle.pattern_read.specs.WantedPatterns.{UnitAt, goes_typed, segment_type_in, spec_in};
 
+use crate::cursor::Cursor;
 use crate::fault::{Cause, Fault};
-use crate::source::Source;
 use erl_syntax::{Expr, Listed, Segment, Span, Spec, TokenKind};
 use std::alloc::Global;
 
@@ -67,17 +67,17 @@ fn named(chars: &[u8]) -> Option<Spec>
 }
 
 /// `unit` at that place, with its number behind it.
-fn unit(source: &Source, at: usize) -> Result<(Spec, usize), Fault>
-    requires unit { UnitAt source.now at }
-    requires within { at < length source.now.words }
-    requires short { length source.now.words < 2 ^ 64 }
-    ensures reads { Gives closed spec_in source.now at result }
-    ensures further { IfOk result (λ r. at < r.1 × (r.1 ≤ length source.now.words)) }
+fn unit(cursor: &Cursor, at: usize) -> Result<(Spec, usize), Fault>
+    requires unit { UnitAt cursor.now at }
+    requires within { at < length cursor.now.words }
+    requires short { length cursor.now.words < 2 ^ 64 }
+    ensures reads { Gives closed spec_in cursor.now at result }
+    ensures further { IfOk result (λ r. at < r.1 × (r.1 ≤ length cursor.now.words)) }
 {
-    if !source.is(at + 1, TokenKind::Colon) {
+    if !cursor.is(at + 1, TokenKind::Colon) {
         return Err(Fault::Refused(at + 1, Cause::Syntax));
     }
-    let Some(numbered) = source.token(at + 2) else {
+    let Some(numbered) = cursor.token(at + 2) else {
         return Err(Fault::Refused(at + 2, Cause::Syntax));
     };
     if numbered.token.kind == TokenKind::Integer {
@@ -88,17 +88,17 @@ fn unit(source: &Source, at: usize) -> Result<(Spec, usize), Fault>
 }
 
 /// A word of a segment's type; behind `unit` stands its number.
-pub fn spec(alloc: Global, source: &Source, at: usize) -> Result<(Spec, usize), Fault>
-    requires { at ≤ length source.now.words }
-    ensures reads { Gives closed spec_in source.now at result }
-    ensures further { IfOk result (λ r. at < r.1 × (r.1 ≤ length source.now.words)) }
+pub fn spec(alloc: Global, cursor: &Cursor, at: usize) -> Result<(Spec, usize), Fault>
+    requires { at ≤ length cursor.now.words }
+    ensures reads { Gives closed spec_in cursor.now at result }
+    ensures further { IfOk result (λ r. at < r.1 × (r.1 ≤ length cursor.now.words)) }
 {
-    if !source.is(at, TokenKind::Atom) {
+    if !cursor.is(at, TokenKind::Atom) {
         return Err(Fault::Refused(at, Cause::Syntax));
     }
-    let chars = source.atom_characters(alloc, at)?;
+    let chars = cursor.atom_characters(alloc, at)?;
     if same(chars.bytes(), b"unit") {
-        return unit(source, at);
+        return unit(cursor, at);
     }
     match named(chars.bytes()) {
         Some(spec) => Ok((spec, at + 1)),
@@ -109,18 +109,18 @@ pub fn spec(alloc: Global, source: &Source, at: usize) -> Result<(Spec, usize), 
 /// What stands behind a segment's value and size: the words of its type, if any.
 pub fn segment_type(
     alloc: Global,
-    source: &Source,
+    cursor: &Cursor,
     at: usize,
     place: Span,
     value: Expr,
     size: Option<Expr>,
 ) -> Result<(Segment, usize), Fault>
-    requires { at ≤ length source.now.words }
-    ensures reads { Gives goes_typed (segment_type_in place value size) source.now at result }
-    ensures further { IfOk result (λ r. at ≤ r.1 × (r.1 ≤ length source.now.words)) }
+    requires { at ≤ length cursor.now.words }
+    ensures reads { Gives goes_typed (segment_type_in place value size) cursor.now at result }
+    ensures further { IfOk result (λ r. at ≤ r.1 × (r.1 ≤ length cursor.now.words)) }
 {
     let mut specs = Vec::new(alloc);
-    if !source.is(at, TokenKind::Slash) {
+    if !cursor.is(at, TokenKind::Slash) {
         return Ok((
             Segment {
                 at: place,
@@ -133,9 +133,9 @@ pub fn segment_type(
     }
     let mut next = at + 1;
     loop {
-        let (spec, after) = spec(alloc, source, next)?;
+        let (spec, after) = spec(alloc, cursor, next)?;
         specs.push(spec)?;
-        if !source.is(after, TokenKind::Minus) {
+        if !cursor.is(after, TokenKind::Minus) {
             return Ok((
                 Segment {
                     at: place,

@@ -3,26 +3,26 @@ ghost use Rattle.erl_syntax.specs.Grammar.{Context, InSize, inside, under};
 ghost use Rattle.erl_syntax.specs.declared.token.TokenKind.TheVariants as k;
 ghost use Rattle.erl_syntax.specs.declared.expr.Expr.TheVariants as x;
 ghost use Rattle.pattern_read.specs.Reading.{Gives, closed};
-ghost use Rattle.pattern_read.specs.Wanted.{joined};
+ghost use Rattle.pattern_read.specs.Wanted.{placed_binary};
 ghost use Rattle.pattern_read.specs.declared.fault.Fault.TheVariants.{Memory};
 ghost use Rattle.pattern_read.specs.Wanted.{in_size, calls, extends, level_in, tail_in, operand_in, after_atom_in, qualified_in, exprs_in, NoneInSize, OperatorAt, Closes};
 
+use crate::cursor::{Cursor, first_cause, mark};
 use crate::fault::{Cause, Fault};
 use crate::operators::{level, operator, prefix, right_of};
 use crate::placed::{Placed, higher};
-use crate::source::{Source, first_cause, mark};
 use erl_syntax::{Expr, Listed, Op, Span, TokenKind};
 use std::alloc::Global;
 
 /// The operator of that level at that place, where one may stand in a size: any but `!`.
-fn size_operator(source: &Source, at: usize, wanted: usize) -> Option<Op>
-    requires { at ≤ length source.now.words }
-    ensures operator { MatchOption result (NoneInSize wanted (drop at source.now.words)) (λ op. OperatorAt source.now at wanted op) }
-    ensures within { OnSome result (at < length source.now.words) }
-    ensures short { length source.now.words < 2 ^ 64 }
-    ensures trees { source.now.limits.trees ≤ 2 ^ 32 }
+fn size_operator(cursor: &Cursor, at: usize, wanted: usize) -> Option<Op>
+    requires { at ≤ length cursor.now.words }
+    ensures operator { MatchOption result (NoneInSize wanted (drop at cursor.now.words)) (λ op. OperatorAt cursor.now at wanted op) }
+    ensures within { OnSome result (at < length cursor.now.words) }
+    ensures short { length cursor.now.words < 2 ^ 64 }
+    ensures trees { cursor.now.limits.trees ≤ 2 ^ 32 }
 {
-    let Some(numbered) = source.token(at) else {
+    let Some(numbered) = cursor.token(at) else {
         return None;
     };
     let Some(op) = operator(numbered.token.kind) else {
@@ -39,26 +39,26 @@ fn size_operator(source: &Source, at: usize, wanted: usize) -> Option<Op>
 #[cycle(size)]
 pub fn size_level(
     alloc: Global,
-    source: &Source,
+    cursor: &Cursor,
     at: usize,
     wanted: usize,
     deep: usize,
     brackets: usize,
 ) -> Result<(Placed<Expr>, usize), Fault>
-    requires place { at ≤ length source.now.words }
-    requires tree { deep ≤ source.now.limits.trees }
-    requires bracket { brackets ≤ source.now.limits.brackets }
+    requires place { at ≤ length cursor.now.words }
+    requires tree { deep ≤ cursor.now.limits.trees }
+    requires bracket { brackets ≤ cursor.now.limits.brackets }
     requires low { wanted ≤ 6 }
-    ensures reads { Gives (extends wanted) (level_in wanted (in_size deep brackets)) source.now at result }
-    ensures further { IfOk result (λ r. at < r.1 × (r.1 ≤ length source.now.words)) }
-    ensures bounded { IfOk result (λ r. (1 ≤ r.0.height) × (deep + r.0.height ≤ source.now.limits.trees + 1)) }
+    ensures reads { Gives (extends wanted) (level_in wanted (in_size deep brackets)) cursor.now at result }
+    ensures further { IfOk result (λ r. at < r.1 × (r.1 ≤ length cursor.now.words)) }
+    ensures bounded { IfOk result (λ r. (1 ≤ r.0.height) × (deep + r.0.height ≤ cursor.now.limits.trees + 1)) }
 {
     if wanted == 6 {
-        return size_operand(alloc, source, at, deep, brackets);
+        return size_operand(alloc, cursor, at, deep, brackets);
     }
-    let (first, after) = size_level(alloc, source, at, wanted + 1, deep, brackets)?;
+    let (first, after) = size_level(alloc, cursor, at, wanted + 1, deep, brackets)?;
     let place = first.at;
-    let ((tree, height), next) = size_tail(alloc, source, after, wanted, deep, brackets, first)?;
+    let ((tree, height), next) = size_tail(alloc, cursor, after, wanted, deep, brackets, first)?;
     Ok((
         Placed {
             at: place,
@@ -73,35 +73,35 @@ pub fn size_level(
 #[cycle(size)]
 fn size_tail(
     alloc: Global,
-    source: &Source,
+    cursor: &Cursor,
     at: usize,
     wanted: usize,
     deep: usize,
     brackets: usize,
     left: Placed<Expr>,
 ) -> Result<((Expr, usize), usize), Fault>
-    requires place { at ≤ length source.now.words }
-    requires tree { deep ≤ source.now.limits.trees }
-    requires bracket { brackets ≤ source.now.limits.brackets }
+    requires place { at ≤ length cursor.now.words }
+    requires tree { deep ≤ cursor.now.limits.trees }
+    requires bracket { brackets ≤ cursor.now.limits.brackets }
     requires low { wanted < 6 }
     requires tall { 1 ≤ left.height }
-    requires height { deep + left.height ≤ source.now.limits.trees + 1 }
-    ensures reads { Gives (extends wanted) (tail_in wanted (in_size deep brackets) left) source.now at result }
-    ensures further { IfOk result (λ r. at ≤ r.1 × (r.1 ≤ length source.now.words)) }
-    ensures bounded { IfOk result (λ r. (1 ≤ r.0.1) × (deep + r.0.1 ≤ source.now.limits.trees + 1)) }
+    requires height { deep + left.height ≤ cursor.now.limits.trees + 1 }
+    ensures reads { Gives (extends wanted) (tail_in wanted (in_size deep brackets) left) cursor.now at result }
+    ensures further { IfOk result (λ r. at ≤ r.1 × (r.1 ≤ length cursor.now.words)) }
+    ensures bounded { IfOk result (λ r. (1 ≤ r.0.1) × (deep + r.0.1 ≤ cursor.now.limits.trees + 1)) }
 {
-    let Some(op) = size_operator(source, at, wanted) else {
+    let Some(op) = size_operator(cursor, at, wanted) else {
         return Ok(((left.tree, left.height), at));
     };
-    if deep + left.height > source.trees() {
+    if deep + left.height > cursor.trees() {
         return Err(Fault::Refused(at, Cause::TooDeep));
     }
-    let (right, next) = size_level(alloc, source, at + 1, right_of(wanted), deep + 1, brackets)?;
-    let joined = binary(alloc, op, left, right)?;
+    let (right, next) = size_level(alloc, cursor, at + 1, right_of(wanted), deep + 1, brackets)?;
+    let placed_binary = binary(alloc, op, left, right)?;
     if wanted < 4 {
-        return Ok(((joined.tree, joined.height), next));
+        return Ok(((placed_binary.tree, placed_binary.height), next));
     }
-    size_tail(alloc, source, next, wanted, deep, brackets, joined)
+    size_tail(alloc, cursor, next, wanted, deep, brackets, placed_binary)
 }
 
 /// An operator between two parts.
@@ -113,7 +113,7 @@ fn binary(
 ) -> Result<Placed<Expr>, Fault>
     requires left { left.height ≤ 2 ^ 32 }
     requires right { right.height ≤ 2 ^ 32 }
-    ensures joined { IfOk result (λ r. r ≡ joined left op right) }
+    ensures placed_binary { IfOk result (λ r. r ≡ placed_binary left op right) }
     ensures memory { IfErr result (λ e. e ≡ Memory) }
 {
     let height = higher(left.height, right.height) + 1;
@@ -142,27 +142,27 @@ fn one(alloc: Global, part: Expr) -> Result<Listed<Expr>, Fault>
 #[cycle(size)]
 fn size_operand(
     alloc: Global,
-    source: &Source,
+    cursor: &Cursor,
     at: usize,
     deep: usize,
     brackets: usize,
 ) -> Result<(Placed<Expr>, usize), Fault>
-    requires place { at ≤ length source.now.words }
-    requires tree { deep ≤ source.now.limits.trees }
-    requires bracket { brackets ≤ source.now.limits.brackets }
-    ensures reads { Gives calls (operand_in (in_size deep brackets)) source.now at result }
-    ensures further { IfOk result (λ r. at < r.1 × (r.1 ≤ length source.now.words)) }
-    ensures bounded { IfOk result (λ r. (1 ≤ r.0.height) × (deep + r.0.height ≤ source.now.limits.trees + 1)) }
+    requires place { at ≤ length cursor.now.words }
+    requires tree { deep ≤ cursor.now.limits.trees }
+    requires bracket { brackets ≤ cursor.now.limits.brackets }
+    ensures reads { Gives calls (operand_in (in_size deep brackets)) cursor.now at result }
+    ensures further { IfOk result (λ r. at < r.1 × (r.1 ≤ length cursor.now.words)) }
+    ensures bounded { IfOk result (λ r. (1 ≤ r.0.height) × (deep + r.0.height ≤ cursor.now.limits.trees + 1)) }
 {
-    let Some(numbered) = source.token(at) else {
+    let Some(numbered) = cursor.token(at) else {
         return Err(Fault::Refused(at, Cause::Syntax));
     };
     let place = numbered.token.span;
     if let Some(op) = prefix(numbered.token.kind) {
-        if deep >= source.trees() {
+        if deep >= cursor.trees() {
             return Err(Fault::Refused(at, Cause::TooDeep));
         }
-        let (part, next) = size_operand(alloc, source, at + 1, deep + 1, brackets)?;
+        let (part, next) = size_operand(alloc, cursor, at + 1, deep + 1, brackets)?;
         let height = part.height + 1;
         let tree = Expr::Unary {
             at: place,
@@ -180,7 +180,7 @@ fn size_operand(
     }
     match numbered.token.kind {
         TokenKind::Variable => {
-            let name = source.name(alloc, at)?;
+            let name = cursor.name(alloc, at)?;
             Ok((
                 Placed {
                     at: place,
@@ -215,7 +215,7 @@ fn size_operand(
         TokenKind::Atom => {
             let ((tree, height), next) = size_after_atom(
                 alloc,
-                source,
+                cursor,
                 at + 1,
                 deep,
                 brackets,
@@ -232,13 +232,13 @@ fn size_operand(
             ))
         }
         TokenKind::Question => {
-            if !source.is_module(at + 1) {
+            if !cursor.is_module(at + 1) {
                 return Err(Fault::Refused(at + 1, Cause::Syntax));
             }
             let module = Expr::ModuleName { at: place };
             let ((tree, height), next) = size_qualified(
                 alloc,
-                source,
+                cursor,
                 at + 2,
                 deep,
                 brackets,
@@ -255,11 +255,11 @@ fn size_operand(
             ))
         }
         TokenKind::LeftParen => {
-            if brackets >= source.brackets() {
+            if brackets >= cursor.brackets() {
                 return Err(Fault::Refused(at, Cause::TooDeep));
             }
-            let (inner, after) = size_level(alloc, source, at + 1, 0, deep, brackets + 1)?;
-            let (_, next) = mark(source, after, TokenKind::RightParen)?;
+            let (inner, after) = size_level(alloc, cursor, at + 1, 0, deep, brackets + 1)?;
+            let (_, next) = mark(cursor, after, TokenKind::RightParen)?;
             Ok((
                 Placed {
                     at: place,
@@ -277,24 +277,24 @@ fn size_operand(
 #[cycle(size)]
 fn size_after_atom(
     alloc: Global,
-    source: &Source,
+    cursor: &Cursor,
     at: usize,
     deep: usize,
     brackets: usize,
     place: Span,
     name: u32,
 ) -> Result<((Expr, usize), usize), Fault>
-    requires place { at ≤ length source.now.words }
-    requires tree { deep ≤ source.now.limits.trees }
-    requires bracket { brackets ≤ source.now.limits.brackets }
-    ensures reads { Gives calls (after_atom_in (in_size deep brackets) place name) source.now at result }
-    ensures further { IfOk result (λ r. at ≤ r.1 × (r.1 ≤ length source.now.words)) }
-    ensures bounded { IfOk result (λ r. (1 ≤ r.0.1) × (deep + r.0.1 ≤ source.now.limits.trees + 1)) }
+    requires place { at ≤ length cursor.now.words }
+    requires tree { deep ≤ cursor.now.limits.trees }
+    requires bracket { brackets ≤ cursor.now.limits.brackets }
+    ensures reads { Gives calls (after_atom_in (in_size deep brackets) place name) cursor.now at result }
+    ensures further { IfOk result (λ r. at ≤ r.1 × (r.1 ≤ length cursor.now.words)) }
+    ensures bounded { IfOk result (λ r. (1 ≤ r.0.1) × (deep + r.0.1 ≤ cursor.now.limits.trees + 1)) }
 {
-    if !source.is(at, TokenKind::LeftParen) {
+    if !cursor.is(at, TokenKind::LeftParen) {
         return size_qualified(
             alloc,
-            source,
+            cursor,
             at,
             deep,
             brackets,
@@ -305,12 +305,12 @@ fn size_after_atom(
             },
         );
     }
-    if brackets >= source.brackets() {
+    if brackets >= cursor.brackets() {
         return Err(Fault::Refused(at, Cause::TooDeep));
     }
     let ((args, height), next) = size_exprs(
         alloc,
-        source,
+        cursor,
         at + 1,
         deep + 1,
         brackets + 1,
@@ -335,38 +335,38 @@ fn size_after_atom(
 #[cycle(size)]
 fn size_qualified(
     alloc: Global,
-    source: &Source,
+    cursor: &Cursor,
     at: usize,
     deep: usize,
     brackets: usize,
     place: Span,
     qualifier: Expr,
 ) -> Result<((Expr, usize), usize), Fault>
-    requires place { at ≤ length source.now.words }
-    requires tree { deep ≤ source.now.limits.trees }
-    requires bracket { brackets ≤ source.now.limits.brackets }
-    ensures reads { Gives calls (qualified_in (in_size deep brackets) place qualifier) source.now at result }
-    ensures further { IfOk result (λ r. at ≤ r.1 × (r.1 ≤ length source.now.words)) }
-    ensures bounded { IfOk result (λ r. (1 ≤ r.0.1) × (deep + r.0.1 ≤ source.now.limits.trees + 1)) }
+    requires place { at ≤ length cursor.now.words }
+    requires tree { deep ≤ cursor.now.limits.trees }
+    requires bracket { brackets ≤ cursor.now.limits.brackets }
+    ensures reads { Gives calls (qualified_in (in_size deep brackets) place qualifier) cursor.now at result }
+    ensures further { IfOk result (λ r. at ≤ r.1 × (r.1 ≤ length cursor.now.words)) }
+    ensures bounded { IfOk result (λ r. (1 ≤ r.0.1) × (deep + r.0.1 ≤ cursor.now.limits.trees + 1)) }
 {
-    if !source.is(at, TokenKind::Colon) {
+    if !cursor.is(at, TokenKind::Colon) {
         return Ok(((qualifier, 1), at));
     }
-    if deep >= source.trees() {
+    if deep >= cursor.trees() {
         return Err(Fault::Refused(at, Cause::TooDeep));
     }
-    if brackets >= source.brackets() {
+    if brackets >= cursor.brackets() {
         return Err(Fault::Refused(at, Cause::TooDeep));
     }
-    let Some(name) = source.atom(at + 1) else {
+    let Some(name) = cursor.atom(at + 1) else {
         return Err(Fault::Refused(at + 1, Cause::Syntax));
     };
-    if !source.is(at + 2, TokenKind::LeftParen) {
+    if !cursor.is(at + 2, TokenKind::LeftParen) {
         return Err(Fault::Refused(at + 2, Cause::Syntax));
     }
     let ((args, height), next) = size_exprs(
         alloc,
-        source,
+        cursor,
         at + 3,
         deep + 1,
         brackets + 1,
@@ -391,37 +391,37 @@ fn size_qualified(
 #[cycle(size)]
 fn size_exprs(
     alloc: Global,
-    source: &Source,
+    cursor: &Cursor,
     at: usize,
     deep: usize,
     brackets: usize,
     close: TokenKind,
 ) -> Result<((Listed<Expr>, usize), usize), Fault>
-    requires place { at ≤ length source.now.words }
-    requires tree { deep ≤ source.now.limits.trees + 1 }
-    requires bracket { brackets ≤ source.now.limits.brackets }
+    requires place { at ≤ length cursor.now.words }
+    requires tree { deep ≤ cursor.now.limits.trees + 1 }
+    requires bracket { brackets ≤ cursor.now.limits.brackets }
     requires closes { Closes close }
-    ensures reads { Gives closed (exprs_in close (in_size deep brackets)) source.now at result }
-    ensures further { IfOk result (λ r. at < r.1 × (r.1 ≤ length source.now.words)) }
-    ensures bounded { IfOk result (λ r. deep + r.0.1 ≤ source.now.limits.trees + 1) }
+    ensures reads { Gives closed (exprs_in close (in_size deep brackets)) cursor.now at result }
+    ensures further { IfOk result (λ r. at < r.1 × (r.1 ≤ length cursor.now.words)) }
+    ensures bounded { IfOk result (λ r. deep + r.0.1 ≤ cursor.now.limits.trees + 1) }
 {
     let mut items = Vec::new(alloc);
-    if source.is(at, close) {
+    if cursor.is(at, close) {
         return Ok(((Listed::of(items), 0), at + 1));
     }
-    if deep > source.trees() {
-        return Err(Fault::Refused(at, first_cause(source, at)));
+    if deep > cursor.trees() {
+        return Err(Fault::Refused(at, first_cause(cursor, at)));
     }
     let mut height = 0;
     let mut next = at;
     loop {
-        let (item, after) = size_level(alloc, source, next, 0, deep, brackets)?;
+        let (item, after) = size_level(alloc, cursor, next, 0, deep, brackets)?;
         items.push(item.tree)?;
         height = higher(height, item.height);
-        if source.is(after, close) {
+        if cursor.is(after, close) {
             return Ok(((Listed::of(items), height), after + 1));
         }
-        if !source.is(after, TokenKind::Comma) {
+        if !cursor.is(after, TokenKind::Comma) {
             return Err(Fault::Refused(after, Cause::Syntax));
         }
         next = after + 1;

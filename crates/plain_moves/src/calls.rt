@@ -1,6 +1,6 @@
 //! Calls of functions of the module.
 ghost use Rattle.std.specs.Prelude.{◌≡◌, ℕ, IfOk, slice_get};
-ghost use Rattle.code_tree.specs.Reading.{function_of, module_of};
+ghost use Rattle.code_tree.specs.Reading.{function_of, module_meant};
 ghost use Rattle.plain_moves.specs.Moving.{IsMove};
 ghost use Rattle.plain_moves.specs.Reading.{call_tree};
 ghost use Rattle.plain_moves.specs.Worlds.{world_of};
@@ -35,7 +35,7 @@ fn enter<'a>(
     function: &'a Function,
     arguments: &Values,
 ) -> Result<Move<'a>, AllocError>
-    ensures { (place : ℕ) → slice_get (module_of scene.now.code.now).functions place ≡ Some (function_of function.now) → IfOk result (λ made. IsMove (world_of scene.now) (call_tree place arguments.now) made) }
+    ensures { (place : ℕ) → slice_get (module_meant scene.now.code.now).functions place ≡ Some (function_of function.now) → IfOk result (λ made. IsMove (world_of scene.now) (call_tree place arguments.now) made) }
 {
     let choice = chosen(
         &scene.caller(),

@@ -4,7 +4,7 @@ use Rattle.term_value.specs.Seen.{Seen}
 use Rattle.term_value.specs.Step.{World}
 use Rattle.code_tree.specs.PlainTerms.{value}
 use Rattle.process_acts.specs.Acts.{Runs, IsTurn, Answered, Saw, Filled}
-use Rattle.process_acts.proofs.Paths.{joined}
+use Rattle.process_acts.proofs.Paths.{runs_joined}
 use Rattle.process_acts.specs.declared.asking.Asking.{Asking}
 use Rattle.process_acts.specs.declared.asking.Turn.{Turn}
 use Rattle.process_acts.specs.declared.asking.Turn.TheVariants as t
@@ -42,7 +42,7 @@ fills_by w old taken new e h r =
 
 -- a stage behind a run
 pub leads_on : (w : World) (start standing new : Standing) → Leads w start standing → Leads w standing new → Leads w start new
-leads_on w start standing new a b = joined w.code (local_in w start) (local_in w standing) (local_in w new) a b
+leads_on w start standing new a b = runs_joined w.code (local_in w start) (local_in w standing) (local_in w new) a b
 
 pub stage_on : (w : World) (start standing new : Standing) (stage : Stage) → stage ≡ On new → Leads w start standing → IsStage w standing stage → Leads w start new
 stage_on w start standing new stage e a h = leads_on w start standing new a (subst (λ (s : Stage). IsStage w standing s) e h)

@@ -1,6 +1,6 @@
 //! A process of the plain machine.
 ghost use Rattle.std.specs.Prelude.{◌≡◌, IfOk};
-ghost use Rattle.code_tree.specs.Reading.{module_of};
+ghost use Rattle.code_tree.specs.Reading.{module_meant};
 ghost use Rattle.process_acts.specs.Acts.{IsFirst};
 
 use crate::answering::{answer as answer_at, fill, see};
@@ -24,7 +24,7 @@ impl<'a> PlainProcess<'a> {
 
     /// A process of a module, at its start.
     pub fn new(alloc: Global, code: &'a Code, first: First) -> Result<PlainProcess<'a>, AllocError>
-        ensures code { IfOk result (λ process. code_of process ≡ module_of code.now) }
+        ensures code { IfOk result (λ process. code_of process ≡ module_meant code.now) }
         ensures begins { IfOk result (λ process. IsFirst first (local_of process)) }
     {
         let scene = Scene {

@@ -23,12 +23,12 @@ both code _ _ k _ _ costs mades (contracts l next mid cost made rest more e c) d
 pub none : (code : Module) (l : Local) → Runs code l l
 none code l = record { cost = 0; made = 0; path = stands l }
 
-pub joined : (code : Module) (l mid k : Local) → Runs code l mid → Runs code mid k → Runs code l k
-joined code l mid k a b = record { cost = a.cost + b.cost; made = a.made + b.made; path = both code l mid k a.cost a.made b.cost b.made a.path b.path }
+pub runs_joined : (code : Module) (l mid k : Local) → Runs code l mid → Runs code mid k → Runs code l k
+runs_joined code l mid k a b = record { cost = a.cost + b.cost; made = a.made + b.made; path = both code l mid k a.cost a.made b.cost b.made a.path b.path }
 
 -- a run of an equal module behind another
 pub on_from : (code other : Module) (l mid k : Local) → other ≡ code → Runs code l mid → Runs other mid k → Runs code l k
-on_from code other l mid k e a b = joined code l mid k a (subst (λ (x : Module). Runs x mid k) e b)
+on_from code other l mid k e a b = runs_joined code l mid k a (subst (λ (x : Module). Runs x mid k) e b)
 
 pub turn_asks : (code : Module) (l : Local) (waits : Type 0) (t : Turn) (ask : Asking) → t ≡ Asks ask → IsTurn code l waits t → waits × IsAsking code l ask
 turn_asks code l waits t ask e h = subst (λ (x : Turn). IsTurn code l waits x) e h

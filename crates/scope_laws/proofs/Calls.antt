@@ -12,7 +12,7 @@ use Rattle.erl_syntax.specs.declared.module.Module.{Module}
 use Rattle.erl_syntax.specs.declared.span.Span.{Span}
 use Rattle.term_laws.specs.CallLaws.{trees_of}
 use Rattle.term_value.specs.Calls.{called, form_of}
-use Rattle.term_value.specs.Read.{Reading, module_of, trees}
+use Rattle.term_value.specs.Read.{Reading, called_module, trees}
 use Rattle.term_value.specs.ReadTrees.{reading, tree_of}
 use Rattle.term_value.specs.Tree.{Prim, Form, Table, Call, Send, Display, Spawn, Native, Tree, Trees, and, All as Evaluated}
 use Rattle.term_laws.proofs.CallLaws.{calls_are_read}
@@ -53,7 +53,7 @@ module _ (number_at : Span → ℕ) (m : Module) (s : Scope) (at : Span) (home :
   by_form Spawn ts a h g e = absurd (no_other Spawn ts (λ p i. cc i) a h g e)
 
   abbrev read_as : Form
-  read_as = called (module_of rd (map (expr_read rd) home)) (rd.names name) (length (map (expr_read rd) args)) (rd.place name (length (map (expr_read rd) args)))
+  read_as = called (called_module rd (map (expr_read rd) home)) (rd.names name) (length (map (expr_read rd) args)) (rd.place name (length (map (expr_read rd) args)))
 
   pub primitive : IsAccepted m → IsCalled m s at home name args → s.guarded ≡ true →
       (p : Prim) × (tree_of rd (x.Call at home name args) ≡ Evaluated (Table p) (trees_of rd args))

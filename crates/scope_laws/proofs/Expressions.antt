@@ -26,7 +26,7 @@ use Rattle.scope_laws.proofs.Calls.{primitive, trees_read}
 use Rattle.scope_laws.proofs.Numbering.{Numbering, number, reader, Covers, covers_moved, read_known}
 use Rattle.scope_laws.proofs.Known.{Free, free_left, free_right, free_moved}
 use Rattle.scope_laws.proofs.Segments.{ExprAt, IsFine, Walks, SegmentWalks}
-use Rattle.scope_laws.proofs.SpeltForms.{OfSome}
+use Rattle.module_laws.proofs.SpeltForms.{OfSome}
 
 module _ (w : Numbering) where
   abbrev pub AreFine : List ℕ → Bool → Type 0 → Trees → Type 0

@@ -6,5 +6,4 @@ pub mod Known
 pub mod Numbering
 pub mod Patterns
 pub mod Segments
-pub mod SpeltForms
 pub mod Whole

@@ -27,7 +27,7 @@ use Rattle.module_laws.proofs.VariableForms.{in_patterns, in_segments, pattern-V
 use Rattle.scope_laws.proofs.Numbering.{Numbering, number, reader, Covers, BoundAt, target_covers, target_comes}
 use Rattle.scope_laws.proofs.Known.{Grows, grows_none, grows_then, grows_moved}
 use Rattle.scope_laws.proofs.Segments.{PatternAt, SegmentWalks, SegmentsAt, pattern_segments}
-use Rattle.scope_laws.proofs.SpeltForms.{Short}
+use Rattle.module_laws.proofs.SpeltForms.{Short}
 
 targets-Wild : (at : Span) → targets (p.Wild at) ≡ []
 targets-Wild at = ap targets (sym (p.rolls-Wild at)) ∙ fold-roll-Pattern Vars (List Bound) Row (List (List ℕ)) (List (List ℕ)) (Unit {0}) (List (List ℕ)) Vars expr_layer pattern_layer qual_layer alt_layer branch_layer guard_layer item_layer segment_layer (O.Pattern::Wild at)

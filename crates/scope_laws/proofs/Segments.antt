@@ -42,7 +42,7 @@ use Rattle.module_laws.specs.Variables.{expr_spans, segment_spans}
 use Rattle.module_laws.proofs.VariableForms.{in_segments, in_size, expr-Var, segment-of}
 use Rattle.scope_laws.proofs.Numbering.{Numbering, number, reader, Covers, BoundAt, target_number, target_covers, target_comes}
 use Rattle.scope_laws.proofs.Known.{Free, Grows, grows_none, grows_then, grows_moved}
-use Rattle.scope_laws.proofs.SpeltForms.{OfSome}
+use Rattle.module_laws.proofs.SpeltForms.{OfSome}
 
 -- ---- Names of bindings
 

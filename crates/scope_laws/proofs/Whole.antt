@@ -4,7 +4,7 @@ use Rattle.std.specs.List.{All, AllByRecursion, Contains, zip}
 use Rattle.std.proofs.lemmas.List.Elements.{All-nil, All-cons, All-contains, All-from_recursion}
 use Rattle.erl_syntax.specs.Bindings.{targets_of}
 use Rattle.erl_syntax.specs.Checking.{AreNumbered, IsAccepted, IsNumbered, RisingBy, none, and_then, number_at}
-use Rattle.erl_syntax.specs.Grammar.{strict}
+use Rattle.erl_syntax.specs.Grammar.{InGuard, InSize, strict}
 use Rattle.erl_syntax.specs.Reading.{Reads, words_of}
 use Rattle.erl_syntax.specs.Scopes.{in_guard, nothing_known, past_patterns, to_match, head, head_guard, head_body}
 use Rattle.erl_syntax.specs.declared.checking.VarUse.{VarUse}
@@ -21,6 +21,7 @@ use Rattle.term_laws.proofs.ScopedMachine.{start_scoped, leads_scoped, contracts
 use Rattle.module_check.proofs.Spots.{Contains-head, Contains-tail}
 use Rattle.module_laws.specs.Variables.{clause_spans, function_spans, guard_spans}
 use Rattle.module_laws.proofs.ModuleVariables.{variables_rise}
+use Rattle.module_laws.proofs.SpeltForms.{Cs, Properties, Within, functions_have, not_sent, words_have}
 use Rattle.module_laws.proofs.VariableForms.{in_clauses, in_items, in_patterns}
 use Rattle.scope_laws.specs.Accepted.{AcceptedIsScoped, MachinesAreScoped, NoneMeetsUnbound}
 use Rattle.scope_laws.proofs.Bodies as bodies
@@ -33,54 +34,64 @@ use Rattle.scope_laws.proofs.Numbering.{Differ, Numbering, reader}
 use Rattle.scope_laws.proofs.Patterns as pats
 use Rattle.scope_laws.proofs.Patterns.{PatternWalks, patterns_walk}
 use Rattle.scope_laws.proofs.Segments.{SegmentWalks, Walks}
-use Rattle.scope_laws.proofs.SpeltForms.{Cs, Properties, functions_have}
 
 -- what is shown of each kind of part, form by form
 properties : Numbering → Properties
 properties w = record {
-  E = Walks w;
+  N = λ n. Unit {0};
+  T = λ chars. Unit {0};
+  E = λ m. Walks w (Within m);
+  V = Walks w (Within InSize);
   P = PatternWalks w;
   Q = QualWalks w;
-  S = SegmentWalks w;
+  S = λ m. SegmentWalks w (Within m);
+  R = SegmentWalks w (Within InSize);
   G = GuardWalks w;
   I = ItemWalks w;
   A = AltWalks w;
   B = BranchWalks w;
-  E-Var = expressions.E-Var w;
-  E-Wild = expressions.E-Wild w;
-  E-Int = expressions.E-Int w;
-  E-Char = expressions.E-Char w;
-  E-Atom = expressions.E-Atom w;
-  E-ModuleName = expressions.E-ModuleName w;
-  E-Str = expressions.E-Str w;
-  E-Tuple = expressions.E-Tuple w;
-  E-List = expressions.E-List w;
-  E-Bits = expressions.E-Bits w;
-  E-ListFor = λ X at y gs n h k. comprehensions.E-ListFor w X y gs n h k at;
-  E-BitsFor = λ X at y gs n h k. comprehensions.E-BitsFor w X y gs n h k at;
-  E-Call = expressions.E-Call w;
-  E-Case = bodies.E-Case w;
-  E-Receive = bodies.E-Receive w;
-  E-If = bodies.E-If w;
-  E-Unary = expressions.E-Unary w;
-  E-Binary = expressions.E-Binary w;
+  N-minus = λ n h. tt;
+  E-Var = λ m. expressions.E-Var w (Within m);
+  E-Int = λ m at n _. expressions.E-Int w (Within m) at n;
+  E-Char = λ m at n _. expressions.E-Char w (Within m) at n;
+  E-Atom = λ m. expressions.E-Atom w (Within m);
+  E-ModuleName = λ m. expressions.E-ModuleName w (Within m);
+  E-Str = λ m at chars _ _. expressions.E-Str w (Within m) at chars;
+  E-Tuple = λ m at ys _ h. expressions.E-Tuple w (Within m) at ys h;
+  E-List = λ m at ys tail _ h k. expressions.E-List w (Within m) at ys tail h k;
+  E-Bits = λ m at sgs _ h. expressions.E-Bits w (Within m) at sgs h;
+  E-ListFor = λ m at y gs i h k. comprehensions.E-ListFor w (Within m) y gs (λ n. n i) h k at;
+  E-BitsFor = λ m at y gs i h k. comprehensions.E-BitsFor w (Within m) y gs (λ n. n i) h k at;
+  E-Call = λ m. expressions.E-Call w (Within m);
+  E-Case = λ m at y alts i h k. bodies.E-Case w (Within m) at y alts (λ n. n i) h k;
+  E-Receive = λ m at alts i k. bodies.E-Receive w (Within m) at alts (λ n. n i) k;
+  E-If = λ m at bs i k. bodies.E-If w (Within m) at bs (λ n. n i) k;
+  E-Unary = λ m. expressions.E-Unary w (Within m);
+  E-Binary = λ m at op y z f h k. expressions.E-Binary w (Within m) at op y z (not_sent m op f) h k;
+  V-Var = expressions.E-Var w (Within InSize);
+  V-Wild = expressions.E-Wild w (Within InSize);
+  V-Int = λ at n _. expressions.E-Int w (Within InSize) at n;
+  V-Char = λ at n _. expressions.E-Char w (Within InSize) at n;
+  V-Str = λ at chars _. expressions.E-Str w (Within InSize) at chars;
+  V-Unary = expressions.E-Unary w (Within InSize);
   P-Var = pats.P-Var w;
   P-Wild = pats.P-Wild w;
-  P-Int = pats.P-Int w;
-  P-Char = pats.P-Char w;
+  P-Int = λ at n _. pats.P-Int w at n;
+  P-Char = λ at n _. pats.P-Char w at n;
   P-Atom = pats.P-Atom w;
-  P-Str = pats.P-Str w;
+  P-Str = λ at chars _. pats.P-Str w at chars;
   P-Tuple = pats.P-Tuple w;
   P-List = pats.P-List w;
-  P-Bits = pats.P-Bits w;
+  P-Bits = λ at sgs h. pats.P-Bits w (Within InSize) at sgs (λ k. cc k) h;
   P-Same = pats.P-Same w;
-  Q-Items = comprehensions.Q-Items w;
-  Q-Bits = comprehensions.Q-Bits w;
-  Q-Filter = comprehensions.Q-Filter w;
-  S-of = λ X at y size specs h k. (h, k);
+  Q-Items = λ m. comprehensions.Q-Items w (Within m);
+  Q-Bits = λ m at sgs y h k. comprehensions.Q-Bits w (Within InSize) (Within m) at sgs y (λ i. cc i) h k;
+  Q-Filter = λ m. comprehensions.Q-Filter w (Within m);
+  S-of = λ m at y size specs h k. (h, k);
+  R-of = λ at y size specs h k. (h, k);
   G-none = bodies.G-none w;
-  G-of = bodies.G-of w;
-  I-of = λ X y h. (tt, opens w X y h);
+  G-of = λ tests h. bodies.G-of w (Within InGuard) tests (λ k. cc k) h;
+  I-of = λ m y h. (tt, opens w (Within m) y h);
   I-more = λ pt ps y h k. ((h, k.0), k.1);
   A-of = bodies.A-of w;
   B-of = bodies.B-of w;
@@ -115,7 +126,8 @@ module _ (text : List ℕ) (m : Module) (r : Reads text m) (accepted : IsAccepte
   function_scoped f uses among numbered =
       let w : Numbering = record { code = m; accepted = accepted; function = f; among = among; uses = uses; numbered = numbered } in
       let H : Function → Type 0 = λ g. Cs (properties w) g.clauses in
-      let all : AllByRecursion H m.functions = functions_have (properties w) strict m.heads m.exports m.functions (words_of text m.atoms r.tokens) r.spells in
+      let words = words_of text m.atoms r.tokens in
+      let all : AllByRecursion H m.functions = functions_have (properties w) strict m.heads m.exports m.functions words r.spells (words_have (properties w) (λ _. tt) (λ _. tt) words) in
       let mine : H f = All-contains H m.functions f (All-from_recursion H m.functions all) among in
       let rises : Rises f = All-contains Rises m.functions f (variables_rise text m r) among in
       clauses_walk w f.clauses mine (λ c h. h) (rising_differ (function_spans f) rises)

@@ -21,7 +21,7 @@ use Rattle.erl_syntax.specs.declared.built_in.TheConstants.{BUILT_INS}
 use Rattle.term_value.specs.Calls.{is_named, form_of, form_or_call, called}
 use Rattle.term_value.specs.Value.{VAtom}
 use Rattle.term_value.specs.Tree.{Form, and, All as Evaluated, Call, Pattern, Guard, Val}
-use Rattle.term_value.specs.Read.{Reading, Read, Line, Branch, Qualifier, Piece, literal, expression, trees, call, module_of}
+use Rattle.term_value.specs.Read.{Reading, Read, Line, Branch, Qualifier, Piece, literal, expression, trees, call, called_module}
 use Rattle.term_value.specs.ReadTrees.{reading, tree_of, place_of, expr_layer, pattern_layer, qual_layer, alt_layer, branch_layer, guard_layer, item_layer, segment_layer}
 use Rattle.term_laws.specs.CallLaws.{trees_of, IsFirstAt, CallsAreRead}
 
@@ -218,7 +218,7 @@ has_function m home name arity (exported _ _ _ o e h) = h
 module _ (number_at : Span → ℕ) (m : Module) where
   -- the form of a call with this before it
   abbrev called_with : List Expr → ℕ → ℕ → ℕ → Form
-  called_with home name arity place = let r = reading number_at m in called (module_of r (map (expr_read r) home)) (r.names name) arity place
+  called_with home name arity place = let r = reading number_at m in called (called_module r (map (expr_read r) home)) (r.names name) arity place
 
   tree_read : (e : Expr) (at : Span) (home : List Expr) (name : ℕ) (args : List Expr) → e ≡ x.Call at home name args →
       (let r = reading number_at m in tree_of r e ≡ Evaluated (called_with home name (length args) (place_of m.functions name (length args))) (trees_of r args))
@@ -228,11 +228,11 @@ module _ (number_at : Span → ℕ) (m : Module) where
       ∙ ap (λ n. Evaluated (called_with home name n (place_of m.functions name n)) (trees (map (expr_read r) args))) (count_read r args)
       ∙ ap (Evaluated (called_with home name (length args) (place_of m.functions name (length args)))) (trees_read r args)
 
-  at_atom : (e : Expr) (at : Span) (n : ℕ) → e ≡ x.Atom at n → (let r = reading number_at m in module_of r (map (expr_read r) (e ∷ [])) ≡ Some (slice_index_or m.atoms n []))
-  at_atom e at n h = let r = reading number_at m in ap (λ u. module_of r (u ∷ [])) (atom_read r e at n h)
+  at_atom : (e : Expr) (at : Span) (n : ℕ) → e ≡ x.Atom at n → (let r = reading number_at m in called_module r (map (expr_read r) (e ∷ [])) ≡ Some (slice_index_or m.atoms n []))
+  at_atom e at n h = let r = reading number_at m in ap (λ u. called_module r (u ∷ [])) (atom_read r e at n h)
 
-  at_macro : (e : Expr) (at : Span) → e ≡ x.ModuleName at → (let r = reading number_at m in module_of r (map (expr_read r) (e ∷ [])) ≡ Some [])
-  at_macro e at h = let r = reading number_at m in ap (λ u. module_of r (u ∷ [])) (macro_read r e at h)
+  at_macro : (e : Expr) (at : Span) → e ≡ x.ModuleName at → (let r = reading number_at m in called_module r (map (expr_read r) (e ∷ [])) ≡ Some [])
+  at_macro e at h = let r = reading number_at m in ap (λ u. called_module r (u ∷ [])) (macro_read r e at h)
 
   built_in_form : (home : List Expr) (name arity place : ℕ) (f : BuiltIn) → CallsBuiltIn m home name arity f → called_with home name arity place ≡ form_of f
   built_in_form home name arity place f (bare _ _ _ h i) =
@@ -252,7 +252,7 @@ module _ (number_at : Span → ℕ) (m : Module) where
       record { spelled = spelled_at m name (name_of f) (sym same) (name_some f); takes = eqb-true (arity_of f) arity parts.1 }
 
   -- where no built-in function fits with this before the colon
-  at_other_home : (home : List Expr) (chars : List ℕ) (name arity place : ℕ) → (let r = reading number_at m in module_of r (map (expr_read r) home) ≡ Some chars) →
+  at_other_home : (home : List Expr) (chars : List ℕ) (name arity place : ℕ) → (let r = reading number_at m in called_module r (map (expr_read r) home) ≡ Some chars) →
       ((f : BuiltIn) → home_of f ≡ chars → IsBuiltIn m name arity f → ⊥) → called_with home name arity place ≡ Call place
   at_other_home home chars name arity place h none =
       let test : BuiltIn → Bool = λ f. bytes_eq (home_of f) chars && is_named (slice_index_or m.atoms name []) arity f in

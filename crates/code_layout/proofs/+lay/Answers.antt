@@ -93,7 +93,7 @@ pub expressions::strict-returns : goal.expressions::strict-returns
 expressions::strict-returns t c = c.all.ensures ∙ ap (λ zs. tree.All (form_of c.args.form) (laid.trees zs)) c.in_ok-trees.ensures ∙ ap (tree.All (form_of c.args.form)) (same.trees_same (reading_of c.args.laying.now) c.args.parts.now)
 
 pub expressions::call-returns : goal.expressions::call-returns
-expressions::call-returns t c = IfOk-weaker c.strict.result _ _ (λ u h. h ∙ ap (λ f. tree.All f (read.trees (map (expr_read (reading_of c.args.laying.now)) c.args.args.now))) c.in_ok-form.ensures ∙ ap (λ n. tree.All (called (read.module_of (reading_of c.args.laying.now) (map (expr_read (reading_of c.args.laying.now)) c.args.home.now)) ((reading_of c.args.laying.now).names c.args.name) n ((reading_of c.args.laying.now).place c.args.name n)) (read.trees (map (expr_read (reading_of c.args.laying.now)) c.args.args.now))) (sym (length-map c.args.args.now (expr_read (reading_of c.args.laying.now))))) c.strict.ensures
+expressions::call-returns t c = IfOk-weaker c.strict.result _ _ (λ u h. h ∙ ap (λ f. tree.All f (read.trees (map (expr_read (reading_of c.args.laying.now)) c.args.args.now))) c.in_ok-form.ensures ∙ ap (λ n. tree.All (called (read.called_module (reading_of c.args.laying.now) (map (expr_read (reading_of c.args.laying.now)) c.args.home.now)) ((reading_of c.args.laying.now).names c.args.name) n ((reading_of c.args.laying.now).place c.args.name n)) (read.trees (map (expr_read (reading_of c.args.laying.now)) c.args.args.now))) (sym (length-map c.args.args.now (expr_read (reading_of c.args.laying.now))))) c.strict.ensures
 
 pub expressions::receive-returns : goal.expressions::receive-returns
 expressions::receive-returns t c = tree_of-Receive _ ∙ ap tree.Receive c.in_ok-clauses.ensures

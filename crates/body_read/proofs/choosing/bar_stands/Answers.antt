@@ -6,4 +6,4 @@ pub returns-in_default-clause-no : goal.returns-in_default-clause-no
 returns-in_default-clause-no c = λ h. no_bar_end _ c.in_default.ensures.token
 
 pub returns-clause-no : goal.returns-clause-no
-returns-clause-no c = λ h. no_bar_at c.args.source.now c.args.at c.in-Some.numbered c.in-Some.ensures.token (sym c.is_bar.ensures ∙ h)
+returns-clause-no c = λ h. no_bar_at c.args.cursor.now c.args.at c.in-Some.numbered c.in-Some.ensures.token (sym c.is_bar.ensures ∙ h)

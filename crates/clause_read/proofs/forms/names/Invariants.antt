@@ -5,7 +5,7 @@ use Rattle.clause_read.proofs.NameLaws.{name_and_more}
 use Rattle.clause_read.proofs.forms.names.Given as goal
 
 abbrev pub invariant-loop-names : goal.invariant-loop-names
-invariant-loop-names l = (l.at ≤ l.next) × (l.next ≤ length l.source.words) × Passes l.source.limits closed names_in (drop l.at l.source.words) name_and_more (drop l.next l.source.words) (λ p. l.names.items ++ (p.0 ∷ p.1))
+invariant-loop-names l = (l.at ≤ l.next) × (l.next ≤ length l.cursor.words) × Passes l.cursor.limits closed names_in (drop l.at l.cursor.words) name_and_more (drop l.next l.cursor.words) (λ p. l.names.items ++ (p.0 ∷ p.1))
 
 abbrev pub decreases-loop-names : goal.decreases-loop-names
-decreases-loop-names l = length l.source.words - l.next
+decreases-loop-names l = length l.cursor.words - l.next

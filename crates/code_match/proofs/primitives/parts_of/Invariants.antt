@@ -5,12 +5,12 @@ use Rattle.term_value.specs.Encode.{filled_with}
 use Rattle.term_value.specs.Seen.{AreKnown, meanings}
 use Rattle.term_value.specs.Terms.{row}
 use Rattle.code_tree.specs.PlainTerms.{IsShort, AnyAtom}
-use Rattle.code_match.proofs.Filled.{joined}
+use Rattle.code_match.proofs.Filled.{filled_on}
 use Rattle.code_match.proofs.primitives.parts_of.Given as goal
 
 abbrev pub invariant-loop-typed : goal.invariant-loop-typed
 invariant-loop-typed l = record {
-  rest : joined l.parts.items (filled_with l.waiting (meanings itself (row l.left))) ≡ filled_with l.types (meanings itself (row l.values));
+  rest : filled_on l.parts.items (filled_with l.waiting (meanings itself (row l.left))) ≡ filled_with l.types (meanings itself (row l.values));
   parts : All (HasPart IsShort) l.parts.items;
   left : AreKnown IsShort AnyAtom (row l.left);
 }

@@ -9,13 +9,13 @@ use Rattle.pattern_read.proofs.Types.{unit_no_colon, unit_no_number, unit_ok}
 use Rattle.pattern_read.proofs.segment_types.unit.Goals as goal
 
 pub returns-then-not-is-clause-reads : goal.returns-then-not-is-clause-reads
-returns-then-not-is-clause-reads c = unit_no_colon c.args.source.now c.args.at c.requires.unit (c.is.ensures.no (search rules))
+returns-then-not-is-clause-reads c = unit_no_colon c.args.cursor.now c.args.at c.requires.unit (c.is.ensures.no (search rules))
 
 pub returns-in_default-clause-reads : goal.returns-in_default-clause-reads
-returns-in_default-clause-reads c = unit_no_number c.args.source.now c.args.at c.requires.unit (c.is.ensures.yes (search rules)) (is_none c.args.source.now (c.args.at + 2) k.Integer c.in_default.ensures.token)
+returns-in_default-clause-reads c = unit_no_number c.args.cursor.now c.args.at c.requires.unit (c.is.ensures.yes (search rules)) (is_none c.args.cursor.now (c.args.at + 2) k.Integer c.in_default.ensures.token)
 
 pub returns-else-eq-clause-reads : goal.returns-else-eq-clause-reads
-returns-else-eq-clause-reads c = unit_no_number c.args.source.now c.args.at c.requires.unit (c.is.ensures.yes (search rules)) (is_no c.args.source.now (c.args.at + 2) c.in-Some.numbered k.Integer c.in-Some.ensures.token (λ h. search rules))
+returns-else-eq-clause-reads c = unit_no_number c.args.cursor.now c.args.at c.requires.unit (c.is.ensures.yes (search rules)) (is_no c.args.cursor.now (c.args.at + 2) c.in-Some.numbered k.Integer c.in-Some.ensures.token (λ h. search rules))
 
 pub returns-then-eq-clause-reads : goal.returns-then-eq-clause-reads
-returns-then-eq-clause-reads c = unit_ok c.args.source.now c.args.at c.in-Some.numbered _ c.requires.unit (c.is.ensures.yes (search rules)) c.in-Some.ensures.token (same_true the_type _ c.in-Some.numbered.token.kind k.Integer (sym c.eq.ensures ∙ c.if-eq.true)) (to_z-of_z {w = w128} {z = c.integer.result} (record { sfits = c.integer.type_inv }) ∙ c.integer.ensures)
+returns-then-eq-clause-reads c = unit_ok c.args.cursor.now c.args.at c.in-Some.numbered _ c.requires.unit (c.is.ensures.yes (search rules)) c.in-Some.ensures.token (same_true the_type _ c.in-Some.numbered.token.kind k.Integer (sym c.eq.ensures ∙ c.if-eq.true)) (to_z-of_z {w = w128} {z = c.integer.result} (record { sfits = c.integer.type_inv }) ∙ c.integer.ensures)

@@ -2,7 +2,7 @@ use Rattle.std.proofs.Common.{◌≡◌, ◌+◌, ◌&&◌, ℕ, sym, ap, ◌∙
 use Rattle.std.specs.Prelude.{nat_eq, nat_le}
 use Rattle.code_tree.specs.PlainTerms.{value}
 use Rattle.term_value.specs.Machine.{process_bound}
-use Rattle.copy_machine.specs.Entering.{Setting, setting}
+use Rattle.copy_machine.specs.Entering.{Conditions, conditions}
 use Rattle.copy_machine.specs.Starting.{Begins}
 use Rattle.copy_machine.proofs.Acts.{start_none, start_far, start_some, start_awaits}
 use Rattle.copy_machine.proofs.actor.Actor.start.Goals as goal
@@ -14,17 +14,17 @@ answer-requires g c = record {
 }
 
 pub returns-else-is_next : goal.returns-else-is_next
-returns-else-is_next g c = λ (s : Setting) (pid : ℕ) (same : s ≡ setting c.args.world.now.code.now c.args.world.now.reductions c.args.started).
+returns-else-is_next g c = λ (s : Conditions) (pid : ℕ) (same : s ≡ conditions c.args.world.now.code.now c.args.world.now.reductions c.args.started).
     start_far g.P.Process.code g.P.Process.local g.P.Process.waits s pid c.args.child c.args.self.now c.settle.new.self c.in_ok-settle.ensures
-    (ap (λ (x : Setting). nat_eq c.args.child (x.started + 1) && nat_le c.args.child process_bound) same ∙ (cc))
+    (ap (λ (x : Conditions). nat_eq c.args.child (x.started + 1) && nat_le c.args.child process_bound) same ∙ (cc))
 
 pub returns-in-None : goal.returns-in-None
-returns-in-None g c = λ (s : Setting) (pid : ℕ) (same : s ≡ setting c.args.world.now.code.now c.args.world.now.reductions c.args.started).
+returns-in-None g c = λ (s : Conditions) (pid : ℕ) (same : s ≡ conditions c.args.world.now.code.now c.args.world.now.reductions c.args.started).
     start_none g.P.Process.code g.P.Process.local g.P.Process.waits s pid c.args.child c.args.self.now c.settle.new.self c.in_ok-settle.ensures (sym c.in_ok-called_by.ensures ∙ c.in-None.is)
 
 pub returns-in_ok-process-in-Some : goal.returns-in_ok-process-in-Some
-returns-in_ok-process-in-Some g c = λ (s : Setting) (pid : ℕ) (same : s ≡ setting c.args.world.now.code.now c.args.world.now.reductions c.args.started).
+returns-in_ok-process-in-Some g c = λ (s : Conditions) (pid : ℕ) (same : s ≡ conditions c.args.world.now.code.now c.args.world.now.reductions c.args.started).
     start_some g.P.Process.code g.P.Process.local g.P.Process.waits s pid c.args.child c.in-Some.call c.in_ok-first-in-Some.first (value c.of-pid.result) c.in_ok-process-in-Some.process c.args.self.now c.settle.new.self c.answer.new.self c.in_ok-settle.ensures (sym c.in_ok-called_by.ensures ∙ c.in-Some.is)
-    (ap (λ (x : Setting). nat_eq c.args.child (x.started + 1) && nat_le c.args.child process_bound) same ∙ (cc))
-    (subst (λ (x : Setting). Begins x.code x.reductions c.args.child c.in-Some.call c.in_ok-first-in-Some.first) (sym same) c.in_ok-first-in-Some.ensures)
+    (ap (λ (x : Conditions). nat_eq c.args.child (x.started + 1) && nat_le c.args.child process_bound) same ∙ (cc))
+    (subst (λ (x : Conditions). Begins x.code x.reductions c.args.child c.in-Some.call c.in_ok-first-in-Some.first) (sym same) c.in_ok-first-in-Some.ensures)
     c.in_ok-process-in-Some.ensures.begins c.in_ok-process-in-Some.ensures.code (ap value c.of-pid.ensures) c.answer.ensures

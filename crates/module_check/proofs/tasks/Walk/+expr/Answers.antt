@@ -166,7 +166,7 @@ push_value-returns-in-None t c = λ s m.
     )
 
 pub push_exprs-loop-expr-init : goal.push_exprs-loop-expr-init
-push_exprs-loop-expr-init t c = λ s front m. (far_start (expr_in s) front c.args.exprs.now c.args.self.now, means_front c.args.self.now.nodes.items c.args.setting (λ fs. behind fs s) front (front ++ []) (sym (append-nil front)) m)
+push_exprs-loop-expr-init t c = λ s front m. (far_start (expr_in s) front c.args.exprs.now c.args.self.now, means_front c.args.self.now.nodes.items c.args.facts (λ fs. behind fs s) front (front ++ []) (sym (append-nil front)) m)
 
 pub push_exprs-loop-expr-preserved : goal.push_exprs-loop-expr-preserved
 push_exprs-loop-expr-preserved t c = λ s front m.

@@ -57,7 +57,7 @@ pub push_in_pattern-returns-in_default : goal.push_in_pattern-returns-in_default
 push_in_pattern-returns-in_default t c = IfOk-weaker c.know-in_default.result _ _ (λ a h s m o. let r = h s m in let n = c.in_default in (adds_same _ _ _ _ (sym (plain_pattern s c.args.pattern.now n.not-Tuple n.not-List n.not-Bits n.not-Same)) r.0, r.1)) c.know-in_default.ensures
 
 pub push_patterns-loop-pattern-init : goal.push_patterns-loop-pattern-init
-push_patterns-loop-pattern-init t c = λ s front m o. (far_start (pattern_in s) front c.args.patterns.now c.args.self.now, (means_front c.args.self.now.nodes.items c.args.setting (λ fs. past_patterns fs s) front (front ++ []) (sym (append-nil front)) m, refl))
+push_patterns-loop-pattern-init t c = λ s front m o. (far_start (pattern_in s) front c.args.patterns.now c.args.self.now, (means_front c.args.self.now.nodes.items c.args.facts (λ fs. past_patterns fs s) front (front ++ []) (sym (append-nil front)) m, refl))
 
 pub push_patterns-loop-pattern-preserved : goal.push_patterns-loop-pattern-preserved
 push_patterns-loop-pattern-preserved t c = λ s front m o.

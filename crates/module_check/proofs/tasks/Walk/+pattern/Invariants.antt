@@ -8,4 +8,4 @@ use Rattle.module_check.proofs.Tasked.{Far}
 use Rattle.module_check.proofs.tasks.Walk.+pattern.Given as goal
 
 abbrev pub invariant-push_patterns-loop-pattern : goal.invariant-push_patterns-loop-pattern
-invariant-push_patterns-loop-pattern l = (s : Scope) (front : List Pattern) → Means l.initial.self.nodes.items l.fn.setting (past_patterns front s) → Sees l.initial.self.nodes.items l.fn.setting.sizes s.outer → Far l.initial.self l.self (pattern_in s) front (take l.pattern-index l.patterns) (drop l.pattern-index l.patterns) l.patterns × (Means l.self.nodes.items l.after (past_patterns (front ++ take l.pattern-index l.patterns) s) × (l.after.sizes ≡ l.fn.setting.sizes))
+invariant-push_patterns-loop-pattern l = (s : Scope) (front : List Pattern) → Means l.initial.self.nodes.items l.fn.facts (past_patterns front s) → Sees l.initial.self.nodes.items l.fn.facts.sizes s.outer → Far l.initial.self l.self (pattern_in s) front (take l.pattern-index l.patterns) (drop l.pattern-index l.patterns) l.patterns × (Means l.self.nodes.items l.after (past_patterns (front ++ take l.pattern-index l.patterns) s) × (l.after.sizes ≡ l.fn.facts.sizes))

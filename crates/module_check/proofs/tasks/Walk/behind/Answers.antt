@@ -8,5 +8,5 @@ use Rattle.module_check.proofs.tasks.Walk.behind.Goals as goal
 pub returns : goal.returns
 returns c = (
   adds_nodes c.args.self.now _ c.in_ok-dangers.ensures.grown refl,
-  means_behind c.args.self.now.nodes.items c.endanger.new.nodes.items c.args.setting c.in_ok-dangers.dangers (names (bounds_of c.deref.result.now)) c.args.expr.now (ap (λ (zs : List Target). names (bounds_of zs)) c.deref.ensures.value ∙ c.in_ok-add_unsafe.ensures ∙ ap (λ (zs : List Target). names (bounds_of zs) ++ (vars_of c.args.expr.now).left_unsafe) c.new-found.ensures.items) c.in_ok-dangers.ensures.grown c.in_ok-dangers.ensures.put,
+  means_behind c.args.self.now.nodes.items c.endanger.new.nodes.items c.args.facts c.in_ok-dangers.dangers (names (bounds_of c.deref.result.now)) c.args.expr.now (ap (λ (zs : List Target). names (bounds_of zs)) c.deref.ensures.value ∙ c.in_ok-add_unsafe.ensures ∙ ap (λ (zs : List Target). names (bounds_of zs) ++ (vars_of c.args.expr.now).left_unsafe) c.new-found.ensures.items) c.in_ok-dangers.ensures.grown c.in_ok-dangers.ensures.put,
 )

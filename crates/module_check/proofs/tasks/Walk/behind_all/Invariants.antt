@@ -6,5 +6,5 @@ use Rattle.module_check.proofs.tasks.Walk.behind_all.Given as goal
 abbrev pub invariant-loop-expr : goal.invariant-loop-expr
 invariant-loop-expr l = record {
   adds : Adds l.initial.self l.self [];
-  means : (s : Scope) → Means l.initial.self.nodes.items l.fn.setting s → Means l.self.nodes.items l.after (behind (take l.expr-index l.exprs) s);
+  means : (s : Scope) → Means l.initial.self.nodes.items l.fn.facts s → Means l.self.nodes.items l.after (behind (take l.expr-index l.exprs) s);
 }

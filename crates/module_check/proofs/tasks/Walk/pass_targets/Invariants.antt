@@ -8,5 +8,5 @@ use Rattle.module_check.proofs.tasks.Walk.pass_targets.Given as goal
 abbrev pub invariant-loop-target : goal.invariant-loop-target
 invariant-loop-target l = record {
   adds : Adds l.initial.self l.self [];
-  means : (s : Scope) (bs : List Bound) → Passes l.initial.self.nodes.items l.fn.setting (passed bs s) → Passes l.self.nodes.items l.after (passed (bs ++ bounds_of (take l.target-index l.targets)) s);
+  means : (s : Scope) (bs : List Bound) → Passes l.initial.self.nodes.items l.fn.facts (passed bs s) → Passes l.self.nodes.items l.after (passed (bs ++ bounds_of (take l.target-index l.targets)) s);
 }

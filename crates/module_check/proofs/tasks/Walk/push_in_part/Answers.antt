@@ -11,7 +11,7 @@ returns-in_ok-push_in_expr-in-Expr c = λ s m k. adds_same _ _ _ _ (ap (λ y. in
 
 pub returns-in_ok-push_in_pattern-in-Pattern : goal.returns-in_ok-push_in_pattern-in-Pattern
 returns-in_ok-push_in_pattern-in-Pattern c = λ s m k.
-    let P : Scopes.Part → Type 0 = λ y. SeesSizes c.args.self.now.nodes.items c.args.setting.sizes s y in
+    let P : Scopes.Part → Type 0 = λ y. SeesSizes c.args.self.now.nodes.items c.args.facts.sizes s y in
     adds_same _ _ _ _ (ap (λ y. inside s (part_of y)) (sym c.in-Pattern.is)) (c.in_ok-push_in_pattern-in-Pattern.ensures s m (subst P (ap part_of c.in-Pattern.is) k)).0
 
 pub returns-in_ok-push_items-in-Body : goal.returns-in_ok-push_items-in-Body
@@ -19,5 +19,5 @@ returns-in_ok-push_items-in-Body c = λ s m k. adds_same _ _ _ _ (ap (λ y. insi
 
 pub returns-in-Segment : goal.returns-in-Segment
 returns-in-Segment c = IfOk-weaker c.push_segment.result _ _ (λ u h s m k.
-    let P : Scopes.Part → Type 0 = λ y. SeesSizes c.args.self.now.nodes.items c.args.setting.sizes s y in
+    let P : Scopes.Part → Type 0 = λ y. SeesSizes c.args.self.now.nodes.items c.args.facts.sizes s y in
     adds_same _ _ _ _ (ap (λ y. inside s (part_of y)) (sym c.in-Segment.is)) (h s c.in-Segment.field-1 m (subst P (ap part_of c.in-Segment.is) k))) c.push_segment.ensures

@@ -8,7 +8,7 @@ use Rattle.module_check.proofs.tasks.Walk.push_inside.Goals as goal
 
 pub returns-then-task : goal.returns-then-task
 returns-then-task c = IfOk-weaker c.push_in_part.result _ _ (λ u h d f.
-    let P : Scopes.Part → Type 0 = λ y. SeesSizes c.args.self.now.nodes.items c.args.task.setting.sizes d.scope y in
+    let P : Scopes.Part → Type 0 = λ y. SeesSizes c.args.self.now.nodes.items c.args.task.facts.sizes d.scope y in
     adds_same _ _ _ _ (ap (λ y. inside d.scope y) f.part ∙ ap (λ z. left_in z d) (sym c.if-task.true)) (h d.scope f.means (subst P (sym f.part) f.sizes))) c.push_in_part.ensures
 
 pub returns-else-task : goal.returns-else-task

@@ -9,7 +9,7 @@ use Rattle.module_check.proofs.tasks.Walk.push_matched.Given as goal
 abbrev pub invariant-loop-left : goal.invariant-loop-left
 invariant-loop-left l = record {
   within : l.left ≤ length l.patterns;
-  far : (s : Scope) → Means l.initial.self.nodes.items l.fn.setting s → Far l.initial.self l.self (matched_in s) [] (reverse (drop l.left l.patterns)) (reverse (take l.left l.patterns)) (reverse l.patterns) × Means l.self.nodes.items l.after (with_known (targets_of (reverse (drop l.left l.patterns))) s);
+  far : (s : Scope) → Means l.initial.self.nodes.items l.fn.facts s → Far l.initial.self l.self (matched_in s) [] (reverse (drop l.left l.patterns)) (reverse (take l.left l.patterns)) (reverse l.patterns) × Means l.self.nodes.items l.after (with_known (targets_of (reverse (drop l.left l.patterns))) s);
 }
 
 abbrev pub decreases-loop-left : goal.decreases-loop-left

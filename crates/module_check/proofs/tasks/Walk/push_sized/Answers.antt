@@ -4,4 +4,4 @@ use Rattle.module_check.proofs.Passing.{means_size}
 use Rattle.module_check.proofs.tasks.Walk.push_sized.Goals as goal
 
 pub returns : goal.returns
-returns c = IfOk-weaker c.push_size.result _ _ (λ u h s m k. h (size_scope s) (means_size _ c.args.setting s m k)) c.push_size.ensures
+returns c = IfOk-weaker c.push_size.result _ _ (λ u h s m k. h (size_scope s) (means_size _ c.args.facts s m k)) c.push_size.ensures

@@ -9,14 +9,14 @@ use Rattle.erl_syntax.specs.declared.expr.Op.{Op}
 use Rattle.erl_syntax.specs.declared.expr.Op.TheVariants as o
 use Rattle.pattern_read.specs.declared.fault.Cause.{Cause}
 use Rattle.pattern_read.specs.declared.fault.Cause.TheVariants.{Syntax, TooDeep}
-use Rattle.body_read.specs.declared.setting.Setting.{Setting}
-use Rattle.body_read.specs.declared.setting.Setting.TheVariants.{Body as AsBody, Guard as AsGuard}
+use Rattle.body_read.specs.declared.site.Site.{Site}
+use Rattle.body_read.specs.declared.site.Site.TheVariants.{Body as AsBody, Guard as AsGuard}
 use Rattle.erl_syntax.specs.declared.expr.Expr.{Expr}
 use Rattle.erl_syntax.specs.declared.clause.Alt.{Alt}
 use Rattle.pattern_read.specs.declared.placed.Placed.{Placed}
 use Rattle.pattern_read.specs.Wanted.{NoneFollows, level_in}
 use Rattle.body_read.specs.WantedExprs.{mode_of}
-use Rattle.pattern_read.specs.Source.{Readable}
+use Rattle.pattern_read.specs.Cursor.{Readable}
 
 -- the words with which blocks begin
 abbrev pub begins_block : TokenKind → Bool
@@ -26,7 +26,7 @@ begins_block k.If = true
 begins_block _ = false
 
 -- a block begins so, in a body
-abbrev pub IsBlock : Setting → TokenKind → Type 0
+abbrev pub IsBlock : Site → TokenKind → Type 0
 IsBlock s kind = (s ≡ AsBody) × IsTrue (begins_block kind)
 
 -- an expression of a guard begins so
@@ -48,25 +48,25 @@ begins_guard k.LeftParen = true
 begins_guard _ = false
 
 -- an expression begins so
-abbrev pub begins_in : Setting → TokenKind → Bool
+abbrev pub begins_in : Site → TokenKind → Bool
 begins_in AsBody kind = if begins_block kind then true else begins_guard kind
 begins_in AsGuard kind = begins_guard kind
 
-pub data NoneBegins (s : Setting) : List Word → Type 0 where
+pub data NoneBegins (s : Site) : List Word → Type 0 where
   none_at_end : NoneBegins s []
   none_at : (j : Word) (rest : List Word) → begins_in s j.kind ≡ false → NoneBegins s (j ∷ rest)
 
 -- why no expression stands where it would be too deep
-pub data FirstIn (s : Setting) : List Word → Cause → Type 0 where
+pub data FirstIn (s : Site) : List Word → Cause → Type 0 where
   only_deeper_in : (j : Word) (rest : List Word) → IsTrue (begins_in s j.kind) → FirstIn s (j ∷ rest) TooDeep
   none_first : (rest : List Word) → NoneBegins s rest → FirstIn s rest Syntax
 
 -- `!` stands in bodies only
-abbrev pub MayStand : Setting → Op → Type 0
+abbrev pub MayStand : Site → Op → Type 0
 MayStand s op = mode_of s ≡ InBody ⊎ op ≢ o.Send
 
 -- an operator of the level stands there
-pub record OperatorIn (s : Setting) (ws : Readable) (at n : ℕ) (op : Op) : Type 0 where
+pub record OperatorIn (s : Site) (ws : Readable) (at n : ℕ) (op : Op) : Type 0 where
   pub word : Word
   pub is : drop at ws.words ≡ word ∷ drop (at + 1) ws.words
   pub operator : operator_of word.kind ≡ Some op
@@ -74,7 +74,7 @@ pub record OperatorIn (s : Setting) (ws : Readable) (at n : ℕ) (op : Op) : Typ
   pub stands : MayStand s op
 
 -- no operator of the level follows that may stand there
-abbrev pub NoneIn : Setting → ℕ → List Word → Type 0
+abbrev pub NoneIn : Site → ℕ → List Word → Type 0
 NoneIn s n words = (c : Context) → c.mode ≡ mode_of s → NoneFollows n c words
 
 -- behind the value of a `case`

@@ -5,7 +5,7 @@ use Rattle.erl_syntax.specs.Grammar.{Limits}
 use Rattle.erl_syntax.specs.Tokens.{token_text}
 pub use Rattle.erl_syntax.specs.Reading.{characters_of}
 use Rattle.erl_syntax.specs.declared.token.TokenKind.{TokenKind}
-use Rattle.pattern_read.specs.declared.source.Numbered.{Numbered}
+use Rattle.pattern_read.specs.declared.cursor.Numbered.{Numbered}
 use Rattle.erl_syntax.specs.declared.token.TokenKind.TheVariants as k
 
 -- the number that a token stands for

@@ -1,7 +1,7 @@
 use Rattle.std.proofs.Common.{rules, sym, ◌≡◌, ◌∙◌, drop}
 use Rattle.std.specs.Cmp.Lexicographic.{other_text}
 use Rattle.pattern_read.proofs.Words.{no_variable, other_name, module_yes, name_at}
-use Rattle.pattern_read.proofs.source.Source.is_module.Goals as goal
+use Rattle.pattern_read.proofs.cursor.Cursor.is_module.Goals as goal
 
 pub returns-then-not-is-clause-no : goal.returns-then-not-is-clause-no
 returns-then-not-is-clause-no c = λ e. no_variable (drop c.args.at c.args.self.now.words) (c.is.ensures.no (search rules))

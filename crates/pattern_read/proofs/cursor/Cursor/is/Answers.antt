@@ -2,7 +2,7 @@ use Rattle.std.proofs.Common.{rules, ◌∙◌, sym}
 use denote.Enum.Bare.{same_true}
 use Rattle.erl_syntax.specs.contracts.token.TokenKind.{the_type}
 use Rattle.pattern_read.proofs.Words.{is_yes, is_no, is_none}
-use Rattle.pattern_read.proofs.source.Source.is.Goals as goal
+use Rattle.pattern_read.proofs.cursor.Cursor.is.Goals as goal
 
 pub returns-in_default-clause-no : goal.returns-in_default-clause-no
 returns-in_default-clause-no c = λ e. is_none c.args.self.now c.args.at _ c.in_default.ensures.token

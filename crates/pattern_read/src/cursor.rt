@@ -1,6 +1,6 @@
 ghost use Rattle.std.specs.Prelude.{◌≡◌, ◌≢◌, ◌≤◌, ◌<◌, ◌+◌, ◌^◌, ◌↔◌, ◌∷◌, [], List, length, drop, take, pos, false, IsTrue, IfOk, IfSome, OnSome, MatchOption};
 ghost use Rattle.std.specs.Prelude.{All};
-ghost use Rattle.pattern_read.specs.Source.{StandsAt, IsSound, words, limits_of, characters_of};
+ghost use Rattle.pattern_read.specs.Cursor.{StandsAt, IsSound, words, limits_of, characters_of};
 ghost use Rattle.erl_syntax.specs.Grammar.{strict};
 ghost use Rattle.pattern_read.specs.Wanted.{IsAt, AtomAt, ModuleAt, NoMark, NoModule, FirstCause, mark_in};
 ghost use Rattle.pattern_read.specs.Reading.{Gives, closed};
@@ -26,7 +26,7 @@ const NO_LIMIT: usize = 1 << 32;
 /// The tokens of a text with what they stand for, and how deep a module may be that is read of them. Contracts see the list
 /// of their words with these limits.
 #[derive(Debug, Drop)]
-pub struct Source {
+pub struct Cursor {
     text: Vec<u8>,
     /// The characters of each string.
     strings: Vec<Listed<u32>>,
@@ -77,7 +77,7 @@ impl Numbered {
     }
 }
 
-/// Whether tokens are those of a text with the characters of its strings, as `Source::of` asks: each stands in the text, its
+/// Whether tokens are those of a text with the characters of its strings, as `Cursor::of` asks: each stands in the text, its
 /// value is below 2^127, and a string's number is below that of the strings.
 pub fn are_sound(text: &[u8], strings: &[Listed<u32>], tokens: &[Numbered]) -> bool
     ensures { IsTrue result ↔ All (IsSound text.now strings.now) tokens.now }
@@ -87,24 +87,24 @@ pub fn are_sound(text: &[u8], strings: &[Listed<u32>], tokens: &[Numbered]) -> b
         .all(|numbered| numbered.is_sound(text, strings))
 }
 
-impl Model for Source {
+impl Model for Cursor {
     ghost use Rattle.std.specs.Prelude.{All, ◌≤◌, ◌^◌};
-    ghost use Rattle.pattern_read.specs.Source.{words, limits_of, IsSound, Readable};
+    ghost use Rattle.pattern_read.specs.Cursor.{words, limits_of, IsSound, Readable};
 
     ghost Value = { Readable };
 
-    ghost view = { λ source. record { words = words source.text.items source.strings.items source.tokens.items; limits = limits_of source.trees source.brackets } };
+    ghost view = { λ cursor. record { words = words cursor.text.items cursor.strings.items cursor.tokens.items; limits = limits_of cursor.trees cursor.brackets } };
 
-    ghost invariant = { λ source. All (IsSound source.text.items source.strings.items) source.tokens.items × (256 ≤ source.trees) × (source.trees ≤ 2 ^ 32) × (64 ≤ source.brackets) × (source.brackets ≤ 2 ^ 32) };
+    ghost invariant = { λ cursor. All (IsSound cursor.text.items cursor.strings.items) cursor.tokens.items × (256 ≤ cursor.trees) × (cursor.trees ≤ 2 ^ 32) × (64 ≤ cursor.brackets) × (cursor.brackets ≤ 2 ^ 32) };
 }
 
-impl Source {
+impl Cursor {
     /// A text with the characters of its strings and its tokens, to be read within the limits of modules. Takes no memory.
-    pub fn of(text: Vec<u8>, strings: Vec<Listed<u32>>, tokens: Vec<Numbered>) -> Source
+    pub fn of(text: Vec<u8>, strings: Vec<Listed<u32>>, tokens: Vec<Numbered>) -> Cursor
         requires { All (IsSound text.items strings.items) tokens.items }
         ensures { result ≡ record { words = words text.items strings.items tokens.items; limits = strict } }
     {
-        Source {
+        Cursor {
             text,
             strings,
             tokens,
@@ -115,12 +115,12 @@ impl Source {
 
     /// The tokens before that index alone, to be read however deep: the limits are past all that a text can have. Takes no
     /// memory.
-    pub fn front(self, count: usize) -> Source
+    pub fn front(self, count: usize) -> Cursor
         ensures { result ≡ record { words = take count self.words; limits = limits_of (2 ^ 32) (2 ^ 32) } }
     {
         let mut tokens = self.tokens;
         tokens.truncate(count);
-        Source {
+        Cursor {
             text: self.text,
             strings: self.strings,
             tokens,
@@ -270,12 +270,12 @@ impl Source {
 }
 
 /// Reads a token of that kind.
-pub fn mark(source: &Source, at: usize, kind: TokenKind) -> Result<((), usize), Fault>
-    requires { at ≤ length source.now.words }
-    ensures reads { Gives closed (mark_in kind) source.now at result }
-    ensures further { IfOk result (λ r. (r.1 ≡ at + 1) × (at < length source.now.words)) }
+pub fn mark(cursor: &Cursor, at: usize, kind: TokenKind) -> Result<((), usize), Fault>
+    requires { at ≤ length cursor.now.words }
+    ensures reads { Gives closed (mark_in kind) cursor.now at result }
+    ensures further { IfOk result (λ r. (r.1 ≡ at + 1) × (at < length cursor.now.words)) }
 {
-    if source.is(at, kind) {
+    if cursor.is(at, kind) {
         Ok(((), at + 1))
     } else {
         Err(Fault::Refused(at, Cause::Syntax))
@@ -283,11 +283,11 @@ pub fn mark(source: &Source, at: usize, kind: TokenKind) -> Result<((), usize), 
 }
 
 /// Why no expression of a size stands where it would be too deep.
-pub fn first_cause(source: &Source, at: usize) -> Cause
-    requires { at ≤ length source.now.words }
-    ensures { FirstCause (drop at source.now.words) result }
+pub fn first_cause(cursor: &Cursor, at: usize) -> Cause
+    requires { at ≤ length cursor.now.words }
+    ensures { FirstCause (drop at cursor.now.words) result }
 {
-    let Some(numbered) = source.token(at) else {
+    let Some(numbered) = cursor.token(at) else {
         return Cause::Syntax;
     };
     if begins_size(numbered.token.kind) {

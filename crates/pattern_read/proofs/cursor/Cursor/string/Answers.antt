@@ -1,7 +1,7 @@
 use Rattle.std.proofs.Common.{rules, arith, ◌∙◌, ◌<◌, sym, ap, length, get_or, []}
 use Rattle.std.proofs.Math.ListN.{get_or-eq_default}
 use Rattle.pattern_read.proofs.Words.{string_is, words_length}
-use Rattle.pattern_read.proofs.source.Source.string.Goals as goal
+use Rattle.pattern_read.proofs.cursor.Cursor.string.Goals as goal
 
 pub returns-in_ok-to_vec-in-Some : goal.returns-in_ok-to_vec-in-Some
 returns-in_ok-to_vec-in-Some c = λ w rest a m.

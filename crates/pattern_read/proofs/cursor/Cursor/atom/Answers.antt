@@ -1,6 +1,6 @@
 use Rattle.std.proofs.Common.{rules}
 use Rattle.pattern_read.proofs.Words.{is_no, is_none}
-use Rattle.pattern_read.proofs.source.Source.atom.Goals as goal
+use Rattle.pattern_read.proofs.cursor.Cursor.atom.Goals as goal
 
 pub returns-in_default-clause-atom : goal.returns-in_default-clause-atom
 returns-in_default-clause-atom c = is_none c.args.self.now c.args.at _ c.in_default.ensures.token
