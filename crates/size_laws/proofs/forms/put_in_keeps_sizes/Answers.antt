@@ -1,0 +1,5 @@
+use Rattle.size_laws.proofs.PutValues.{put_in_keeps_sizes}
+use Rattle.size_laws.proofs.forms.put_in_keeps_sizes.Goals as goal
+
+pub returns : goal.returns
+returns c = put_in_keeps_sizes
