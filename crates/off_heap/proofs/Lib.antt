@@ -1,7 +1,11 @@
 pub mod Growth
+pub mod Adopted
+pub mod Accumulated
 pub mod Kept
 pub mod Linking
 pub mod Out
+pub mod Packed
+pub mod ReadBack
 pub mod Slots
 pub mod Walked
 pub mod Written

@@ -1,9 +1,9 @@
 -- The list of cells after an edit of one cell.
-use Rattle.std.proofs.Common.{◌≡◌, ◌≢◌, ℕ, ◌+◌, ◌<◌, ◌^◌, List, [], ◌∷◌, set, suc, Option, Some, None, IsSome, IsSomeAnd, refl, ap, sym, subst, ◌∙◌, inl, inr, arith, add-one}
+use Rattle.std.proofs.Common.{◌≡◌, ◌≢◌, ℕ, ◌+◌, ◌-◌, ◌<◌, ◌^◌, List, [], ◌∷◌, length, set, suc, Option, Some, None, IsSome, IsSomeAnd, refl, ap, sym, subst, ◌∙◌, inl, inr, arith, add-one}
 use Rattle.std.proofs.lemmas.Bool.{cases_eq}
 use Rattle.off_heap.specs.declared.cell.Cell.{Cell}
 use Rattle.off_heap.specs.Cells.{cell_at, count_of, room_of, AllTight, OnlyCell}
-use Rattle.off_heap.specs.Lists.{Linked, In, Chained, IsSound, end_of_list}
+use Rattle.off_heap.specs.Lists.{Linked, In, Distinct, Chained, IsSound, end_of_list}
 use Rattle.write_room.specs.Rooms.{IsTight}
 use Rattle.off_heap.proofs.Slots.{none-is_some, here, elsewhere, count-set}
 
@@ -119,3 +119,45 @@ sound_empty = record {
   total = refl;
   few = omega arith;
 }
+
+-- ---- the cell in front goes
+linked_of : (cells : List (Option Cell)) (ns : List ℕ) (slot : Option Cell) (c : Cell) → slot ≡ Some c → IsSomeAnd slot (λ cell. Linked cells cell.next ns) → Linked cells c.next ns
+linked_of cells ns slot c e h = subst (λ (s : Option Cell). IsSomeAnd s (λ cell. Linked cells cell.next ns)) e h
+
+chained_less : (old new : List (Option Cell)) (head count : ℕ) (c : Cell) (numbers : List ℕ) → OnlyCell head old new → cell_at new head ≡ None → cell_at old head ≡ Some c →
+    length numbers ≡ count → Linked old head numbers → Distinct numbers → ((n : ℕ) → IsSome (cell_at old n) → In n numbers) → ((n : ℕ) → In n numbers → n < 2 ^ 31) → Chained new c.next (count - 1)
+chained_less old new head count c [] others gone at counted linked distinct all small = absurd (all head (rw at refl))
+chained_less old new head count c (n ∷ ns) others gone at counted linked distinct all small =
+    let e = linked.0 in
+    let rest : Linked old c.next ns = linked_of old ns (cell_at old n) c (ap (cell_at old) (sym e) ∙ at) linked.1 in
+    let apart : (m : ℕ) → In m ns → m ≢ head = λ (m : ℕ) (i : In m ns) (q : m ≡ head). distinct.0 (subst (λ k. In k ns) (q ∙ e) i) in
+    record {
+      numbers = ns;
+      counted = omega (arith, counted);
+      linked = linked_same old new c.next ns (λ m i. next_itself (cell_at old m) (cell_at new m) (others m (apart m i))) rest;
+      distinct = distinct.1;
+      all = λ m some. elim (cases_eq m head) [
+        | inl same ↦ absurd (none-is_some (rw (same, gone) at some))
+        | inr other ↦ elim (all m (rw (← others m other) some)) [ inl first ↦ absurd (other (first ∙ sym e)) | inr i ↦ i ]
+      ];
+      small = λ m i. small m (inr i);
+    }
+
+tight_less : (old new : List (Option Cell)) (head : ℕ) → OnlyCell head old new → cell_at new head ≡ None → AllTight old → AllTight new
+tight_less old new head others gone h = λ m. elim (cases_eq m head) [
+  | inl same ↦ rw (same, gone) (omega arith)
+  | inr other ↦ rw (others m other) (h m)
+]
+
+pub sound_less : (old new : List (Option Cell)) (head count : ℕ) (c : Cell) → OnlyCell head old new → cell_at new head ≡ None → cell_at old head ≡ Some c → count_of new + 1 ≡ count_of old →
+    IsSound old head count → IsSound new c.next (count - 1)
+sound_less old new head count c others gone at fewer h =
+    let t = h.total in
+    let f = h.few in
+    let k = h.chained in
+    record {
+      chained = chained_less old new head count c k.numbers others gone at k.counted k.linked k.distinct k.all k.small;
+      tight = tight_less old new head others gone h.tight;
+      total = omega arith;
+      few = omega arith;
+    }

@@ -107,6 +107,13 @@ Grows cells (Part n off len) (Small bits) = ⊥
 Grows cells (Small bits) other = ⊥
 
 -- ---- what calls change
+-- the same cells under the same numbers, in the same list
+pub record IsSame (old new : Contents) : Type 0 where
+  pub cells : (n : ℕ) → cell_at new.cells n ≡ cell_at old.cells n
+  pub count : count_of new.cells ≡ count_of old.cells
+  pub head : new.head ≡ old.head
+  pub swept : new.swept ≡ old.swept
+
 -- every other cell is as it was
 abbrev pub OnlyCell : ℕ → List (Option Cell) → List (Option Cell) → Type 0
 OnlyCell n old new = (m : ℕ) → m ≢ n → cell_at new m ≡ cell_at old m

@@ -3,3 +3,8 @@ pub mod Lists
 pub mod Writing
 pub mod Short
 pub mod Walks
+pub mod Parcels
+pub mod Packing
+pub mod Adopting
+pub mod Accumulators
+pub mod ValueCode

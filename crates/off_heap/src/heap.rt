@@ -1,6 +1,6 @@
 //! The heap.
 
-ghost use Rattle.std.specs.Prelude.{◌≡◌, ℕ, ◌+◌, ◌≤◌, ◌≢◌, ◌^◌, [], length, take, drop, false, None, IfOk, IfErr, OnErr, IsTrue, ◌↔◌, IsSome, IsSomeAnd};
+ghost use Rattle.std.specs.Prelude.{◌≡◌, ℕ, ◌+◌, ◌≤◌, ◌≢◌, ◌^◌, [], length, take, drop, false, None, IfOk, OnOk, IfErr, OnErr, IsTrue, ◌↔◌, IsSome, IsSomeAnd};
 ghost use Rattle.bits_value.specs.declared.TheConstants.{MAX_BITS};
 ghost use Rattle.bit_store.specs.Stores.{Keeps};
 ghost use Rattle.write_room.specs.Rooms.{IsTight};
@@ -12,7 +12,7 @@ use crate::cell::{Cell, Storage};
 use crate::reference::BitRef;
 use bits_value::{Bits, Frozen, SmallBits};
 use slab::Slab;
-use std::alloc::{AllocError, AllocFailed, Global};
+use std::alloc::{AllocFailed, Global};
 use std::marker::Model;
 use write_room::Room;
 
@@ -138,18 +138,20 @@ impl Heap {
     }
 
     /// Puts a cell in front of the list.
-    pub(crate) fn add(&mut self, storage: Storage) -> Result<u32, AllocError>
+    pub(crate) fn add(&mut self, storage: Storage) -> Result<u32, AllocFailed<Storage>>
         requires { IsTight (room_of storage) }
         ensures keeps { Keeps shown Valid self.old.cells self.new.cells }
         ensures vacant { IfOk result (λ n. cell_at self.old.cells n ≡ None) }
         ensures there { IfOk result (λ n. IsSomeAnd (cell_at self.new.cells n) (λ cell. (cell.storage ≡ storage) × (cell.noted ≡ false) × (cell.next ≡ self.old.head))) }
         ensures others { IfOk result (λ n. OnlyCell n self.old.cells self.new.cells) }
         ensures head { IfOk result (λ n. self.new.head ≡ n) }
+        ensures more { OnOk result (count_of self.new.cells ≡ count_of self.old.cells + 1) }
         ensures swept { self.new.swept ≡ self.old.swept }
+        ensures back { IfErr result (λ failed. failed.value ≡ storage) }
         ensures refused { OnErr result (self.new ≡ self.old) }
     {
         if self.cells.vacant_key() >= MAX_CELLS as usize || self.count >= MAX_CELLS {
-            return Err(AllocError);
+            return Err(AllocFailed { value: storage });
         }
         let cell = Cell {
             storage,
@@ -163,7 +165,10 @@ impl Heap {
                 self.count += 1;
                 Ok(key as u32)
             }
-            Err(_) => Err(AllocError),
+            Err(failed) => {
+                let Cell { storage, .. } = failed.value;
+                Err(AllocFailed { value: storage })
+            }
         }
     }
 

@@ -17,6 +17,8 @@ pub struct Swept {
     pub left: u32,
     /// The cells that were given up.
     pub dropped: u32,
+    /// The buffers that were given up with them as their last handle: none, as no cell shares one.
+    pub last: u32,
 }
 
 /// Which cells a walk along the list leaves.
@@ -57,6 +59,7 @@ impl Heap {
         ensures keeps { KeepsMarked self.old.cells self.new.cells }
         ensures left { result.left ≡ count_of self.new.cells }
         ensures dropped { result.left + result.dropped ≡ count_of self.old.cells }
+        ensures last { result.last ≡ 0 }
         ensures noted { self.new.swept ≡ result.left }
     {
         let before = self.count;
@@ -65,6 +68,7 @@ impl Heap {
         Swept {
             left,
             dropped: before - left,
+            last: 0,
         }
     }
 
@@ -73,6 +77,7 @@ impl Heap {
         ensures none { (n : ℕ) → cell_at self.new.cells n ≡ None }
         ensures left { result.left ≡ 0 }
         ensures dropped { result.dropped ≡ count_of self.old.cells }
+        ensures last { result.last ≡ 0 }
         ensures noted { self.new.swept ≡ 0 }
     {
         let before = self.count;
@@ -81,6 +86,7 @@ impl Heap {
         Swept {
             left: 0,
             dropped: before,
+            last: 0,
         }
     }
 

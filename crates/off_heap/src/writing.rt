@@ -19,7 +19,7 @@ use std::alloc::AllocError;
 use write_room::Room;
 
 /// The most bits that lie in a reference.
-const SMALL_BITS: u32 = 512;
+pub(crate) const SMALL_BITS: u32 = 512;
 
 impl Heap {
     /// A new bitstring of these pieces in their order: small up to 512 bits, else a still cell.
