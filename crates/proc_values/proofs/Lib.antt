@@ -1,0 +1,10 @@
+pub mod Newest
+pub mod Known
+pub mod Prepended
+pub mod Filled
+pub mod Operands
+pub mod Evaluated
+pub mod Tabled
+pub mod Ledgers
+pub mod Copies
+pub mod Spelt

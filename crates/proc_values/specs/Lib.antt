@@ -1,0 +1,5 @@
+pub mod Binds
+pub mod Shorter
+pub mod Rows
+pub mod Verdicts
+pub mod Literals
