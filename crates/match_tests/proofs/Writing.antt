@@ -10,7 +10,7 @@ use Rattle.match_context.specs.Envs.{AreThere, IsSized, sized}
 use Rattle.match_context.specs.declared.sized.Sized128.{Sized128}
 use Rattle.match_context.specs.declared.sized.Sized128.TheVariants as w
 use Rattle.match_tests.specs.Held.{held_in, seen_in, fixed_in}
-use Rattle.match_tests.specs.Sizes.{nothing, tree_in}
+use Rattle.match_tests.specs.Sizes.{slots_setting, rule_trees}
 use Rattle.match_tests.specs.declared.slots.SizeRule.{SizeRule}
 
 pub sized_is : (due : Result) (size : Sized128) → sized due ≡ size → IsSized due size
@@ -51,4 +51,4 @@ module _ {R : Type 0} (values : List (Option (Term R))) (i : ℕ) (slot : Option
   written j = written_at j (nat_eq i j) refl
 
 pub kept : {R : Type 0} (values : List (Option (Term R))) (sizes : List SizeRule) (i : ℕ) (slot : Option (Term R)) → fixed_in (set values i slot) sizes ≡ fixed_in values sizes
-kept values sizes i slot = ap (λ n. record { setting = nothing; trees = tree_in sizes; variables = n; sizes = length sizes }) (length-set values i slot)
+kept values sizes i slot = ap (λ n. record { setting = slots_setting; trees = rule_trees sizes; variables = n; sizes = length sizes }) (length-set values i slot)

@@ -8,18 +8,18 @@ use Rattle.match_tests.specs.declared.slots.SizeRule.{SizeRule}
 use Rattle.match_tests.specs.declared.slots.SizeRule.TheVariants.{Number, ValueOf, MinusOf}
 
 -- no size names an atom, nor the process
-abbrev pub nothing : Setting
-nothing = record { names = λ atom. []; pid = 0 }
+abbrev pub slots_setting : Setting
+slots_setting = record { names = λ atom. []; pid = 0 }
 
-abbrev pub tree_of : SizeRule → Tree
-tree_of (Number n) = Val (VInt n)
-tree_of (ValueOf x) = Var x
-tree_of (MinusOf x) = All (Table (Prefixed Minus)) (and (Var x) end)
+abbrev pub rule_tree : SizeRule → Tree
+rule_tree (Number n) = Val (VInt n)
+rule_tree (ValueOf x) = Var x
+rule_tree (MinusOf x) = All (Table (Prefixed Minus)) (and (Var x) end)
 
 -- a number that no expression has stands for -1, which is no size
-abbrev pub tree_or : Option SizeRule → Tree
-tree_or (Some rule) = tree_of rule
-tree_or None = Val (VInt (negsuc 0))
+abbrev pub rule_tree_or : Option SizeRule → Tree
+rule_tree_or (Some rule) = rule_tree rule
+rule_tree_or None = Val (VInt (negsuc 0))
 
-abbrev pub tree_in : List SizeRule → ℕ → Tree
-tree_in rules e = tree_or (slice_get rules e)
+abbrev pub rule_trees : List SizeRule → ℕ → Tree
+rule_trees rules e = rule_tree_or (slice_get rules e)

@@ -4,7 +4,7 @@ ghost use Rattle.std.specs.Prelude.{◌≡◌, ◌<◌, ℕ, true, All, IfOk, ma
 ghost use Rattle.pattern_compile.specs.Meaning.{wants, size_form};
 ghost use Rattle.pattern_compile.specs.Patterns.{IsTyped, TargetFits, TargetsFit, SizeFits, given, also};
 ghost use Rattle.match_context.specs.Envs.{known};
-ghost use Rattle.match_tests.specs.Held.{held_in, marked, all_marks};
+ghost use Rattle.match_tests.specs.Held.{held_in, has_mark, all_marks};
 
 use crate::slots::Slots;
 use erl_syntax::{Kind, SizeUse};
@@ -64,7 +64,7 @@ fn marks<R>(alloc: Global, slots: &Slots<R>) -> Result<Vec<bool>, AllocError>
 // Whether the targets fit the variables that are marked, from the left on, where each that is bound is marked then.
 #[tactic(auto, using(crate::proofs::Marks::fits_first))]
 fn targets_fit(ops: &[Operation], marks: &mut [bool]) -> bool
-    ensures { result ≡ true → TargetsFit (length marks.old) (marked marks.old) (map wants ops.now) }
+    ensures { result ≡ true → TargetsFit (length marks.old) (has_mark marks.old) (map wants ops.now) }
 {
     match ops {
         [] => true,
@@ -75,9 +75,9 @@ fn targets_fit(ops: &[Operation], marks: &mut [bool]) -> bool
 }
 
 fn target_fits(target: Target, marks: &mut [bool]) -> bool
-    ensures is { result ≡ true → TargetFits (length marks.old) (marked marks.old) target }
+    ensures is { result ≡ true → TargetFits (length marks.old) (has_mark marks.old) target }
     ensures count { length marks.new ≡ length marks.old }
-    ensures marks { result ≡ true → (x : ℕ) → marked marks.new x ≡ also (marked marks.old) target x }
+    ensures marks { result ≡ true → (x : ℕ) → has_mark marks.new x ≡ also (has_mark marks.old) target x }
 {
     match target {
         Target::Bind(var) => {

@@ -11,7 +11,7 @@ ghost use Rattle.term_value.specs.Value.{VInt};
 ghost use Rattle.erl_syntax.specs.declared.expr.Prefix.TheVariants.{Minus};
 ghost use Rattle.match_context.specs.Envs.{Agrees, IsSized, size_told, sized};
 ghost use Rattle.match_tests.specs.Held.{held_in, fixed_in};
-ghost use Rattle.match_tests.specs.Sizes.{tree_of, nothing};
+ghost use Rattle.match_tests.specs.Sizes.{rule_tree, slots_setting};
 
 use bit_store::Store;
 use erl_syntax::Prefix;
@@ -69,7 +69,7 @@ impl<R: Drop> Slots<R> {
 
     // What a size expression comes to.
     fn come_to(&self, rule: SizeRule) -> Sized128
-        ensures { (shown : R → List Bool) (bs : List Bound) → Agrees shown (held_in self.now.values.items) bs → sized (result_of nothing (put_in bs (tree_of rule))) ≡ result }
+        ensures { (shown : R → List Bool) (bs : List Bound) → Agrees shown (held_in self.now.values.items) bs → sized (result_of slots_setting (put_in bs (rule_tree rule))) ≡ result }
     {
         match rule {
             SizeRule::Number(number) => number_size(number),
@@ -94,7 +94,7 @@ impl<R: Drop, S: Store<R>> Env<R, S> for Slots<R> {
         self.at(var)
     }
 
-    // The trait's clauses.
+    // The clauses are the trait's: the check can't give them to this method by itself.
     #[tactic(auto, using(crate::proofs::Writing::written, crate::proofs::Writing::kept))]
     fn bind(&mut self, var: u32, value: Term<R>)
         requires range { var < length self.old.values.items }
