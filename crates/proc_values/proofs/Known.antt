@@ -40,9 +40,6 @@ module _ {R : Type 0} (has : R → Type 0) where
 pub keeps_then : {S R : Type 0} (shown : S → R → List Bool) (has : S → R → Type 0) (old mid new : S) → Keeps shown has old mid → Keeps shown has mid new → Keeps shown has old new
 keeps_then shown has old mid new k l of h = ((l of (k of h).0).0, (l of (k of h).0).1 ∙ (k of h).1)
 
-pub keeps_same : {S R : Type 0} (shown : S → R → List Bool) (has : S → R → Type 0) (store : S) → Keeps shown has store store
-keeps_same shown has store of h = (h, refl)
-
 -- where each reference is there and shows the same bits, what was known is, and stands for the same
 module _ {S R : Type 0} (shown : S → R → List Bool) (has : S → R → Type 0) (knows : ℕ → Type 0) (old new : S) (keeps : Keeps shown has old new) where
   mutual

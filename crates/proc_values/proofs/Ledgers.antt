@@ -17,3 +17,7 @@ rose_small most old new r = omega (arith, r.1.1)
 -- one item's bits more, of those that are left
 pub rose_item : (most item rest left all old mid new : ℕ) → RoseBy most old mid → most + left ≡ all → left ≡ item + rest → RoseBy item mid new → RoseBy all old new
 rose_item most item rest left all old mid new r e f q = rose_within (most + item) all old new (omega (arith, e, f)) (rose_then most item old mid new r q)
+
+-- no bit more
+pub rose_nothing : (most old new : ℕ) → most ≡ 0 → old < 2 ^ 64 → RoseBy most old new → new ≡ old
+rose_nothing most old new none small r = omega (arith, none, small, r.1.0, r.1.1)

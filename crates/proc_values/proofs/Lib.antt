@@ -8,3 +8,4 @@ pub mod Tabled
 pub mod Ledgers
 pub mod Copies
 pub mod Spelt
+pub mod Quiet

@@ -2,4 +2,4 @@ pub mod Binds
 pub mod Shorter
 pub mod Rows
 pub mod Verdicts
-pub mod Literals
+pub mod MadeBits

@@ -5,6 +5,7 @@ ghost use Rattle.bit_store.specs.Stores.{AnyAtom, Keeps, RoseBy};
 ghost use Rattle.code_tree.specs.PlainTerms.{IsShort};
 ghost use Rattle.code_tree.specs.Reading.{prim_of};
 ghost use Rattle.expr_eval.specs.Answers.{IsEvaluated, HasAnswer, setting};
+ghost use Rattle.proc_values.specs.MadeBits.{PrimMakesNoBits};
 ghost use Rattle.term_value.specs.Primitives.{prim};
 ghost use Rattle.term_value.specs.Seen.{meanings, AreKnown};
 ghost use Rattle.term_value.specs.Terms.{row};
@@ -42,7 +43,8 @@ pub(crate) trait Access<R> {
         requires { AreKnown (has self.old) AnyAtom (row values.items) }
         ensures keeps { Keeps shown has self.old self.new }
         ensures is { IsEvaluated (shown self.new) result (prim (setting caller.now.names.now caller.now.pid) (prim_of what.now) (meanings (shown self.old) (row values.items))) }
-        ensures known { HasAnswer (has self.new) result };
+        ensures known { HasAnswer (has self.new) result }
+        ensures quiet { PrimMakesNoBits (prim_of what.now) → moved self.new ≡ moved self.old };
 }
 
 impl<R: Share + Drop, S: Store<R>> Access<R> for Storage<S> {
@@ -61,6 +63,7 @@ impl<R: Share + Drop, S: Store<R>> Access<R> for Storage<S> {
         ensures keeps { Keeps S.shown S.has self.old.store self.new.store }
         ensures is { IsEvaluated (S.shown self.new.store) result (prim (setting caller.now.names.now caller.now.pid) (prim_of what.now) (meanings (S.shown self.old.store) (row values.items))) }
         ensures known { HasAnswer (S.has self.new.store) result }
+        ensures quiet { PrimMakesNoBits (prim_of what.now) → self.new.steps.moved ≡ self.old.steps.moved }
     {
         primitive(caller, self, what, values)
     }
@@ -88,6 +91,7 @@ impl<R: Share + Drop, S: Store<R>> Access<R> for Reader<'_, S> {
         ensures keeps { Keeps (λ reader of. S.shown reader.store.now of) (λ reader of. S.has reader.store.now of) self.old self.new }
         ensures is { IsEvaluated (S.shown self.new.store.now) result (prim (setting caller.now.names.now caller.now.pid) (prim_of what.now) (meanings (S.shown self.old.store.now) (row values.items))) }
         ensures known { HasAnswer (S.has self.new.store.now) result }
+        ensures quiet { PrimMakesNoBits (prim_of what.now) → ◌≡◌ {A = ℕ} 0 0 }
     {
         read(caller, self.store, what, values)
     }

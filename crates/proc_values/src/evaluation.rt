@@ -1,6 +1,6 @@
 //! Guard expressions, which are the sizes in patterns too, under the values of variables.
 
-ghost use Rattle.std.specs.Prelude.{◌≡◌, List, Bool, IfOk, IfErr, Err, IfSome, MatchOption};
+ghost use Rattle.std.specs.Prelude.{◌≡◌, ◌<◌, ◌^◌, List, Bool, IfOk, IfErr, Err, IfSome, MatchOption};
 ghost use Rattle.bit_store.specs.Stores.{AnyAtom, Keeps};
 ghost use Rattle.match_context.specs.Envs.{Agrees, AreThere};
 ghost use Rattle.term_value.specs.Guards.{Results, AllGive, of_all, result_of as result_is, results_of, second_of, tabled as tabled_as};
@@ -13,6 +13,7 @@ ghost use Rattle.term_value.specs.Tree.{Bound, Var};
 ghost use Rattle.code_tree.specs.PlainTerms.{value};
 ghost use Rattle.code_tree.specs.Reading.{form_of, tree_of, trees_of};
 ghost use Rattle.expr_eval.specs.Answers.{IsEvaluated, HasAnswer, setting};
+ghost use Rattle.proc_values.specs.MadeBits.{bits_inside, FormMakesNoBits, MakesNoBits, MakeNoBits};
 ghost use Rattle.proc_values.specs.Rows.{IsStop};
 
 use crate::access::Access;
@@ -24,7 +25,7 @@ use shares::Share;
 use term_value::Term;
 
 /// The number of the atom `true` in each table of atoms.
-const TRUE: u32 = 11;
+pub(crate) const TRUE: u32 = 11;
 
 /// The number of the atom `false` in each table of atoms.
 const FALSE: u32 = 12;
@@ -42,6 +43,7 @@ pub(crate) fn evaluated<R: Share + Drop, A: Access<R>, V: Variables<R>>(
     ensures is { (bs : List Bound) → Agrees (A.shown access.old) (V.held variables.now) bs
         → IsEvaluated (A.shown access.new) result (result_is (setting caller.now.names.now caller.now.pid) (put_in bs (tree_of tree.now))) }
     ensures known { HasAnswer (A.has access.new) result }
+    ensures quiet { MakesNoBits (tree_of tree.now) → A.moved access.old < 2 ^ 64 → A.moved access.new ≡ A.moved access.old }
 {
     match tree {
         Tree::Value(term) => literal_value(caller, access, term),
@@ -84,6 +86,7 @@ fn values_of<R: Share + Drop, A: Access<R>, V: Variables<R>>(
         → IfErr result (λ fault. IsStop (A.shown access.new) fault (results_of (setting caller.now.names.now caller.now.pid) (puts_in bs (trees_of parts.now)))) }
     ensures known { IfOk result (λ values. AreKnown (A.has access.new) AnyAtom (row values.items)) }
     ensures reason { IfErr result (λ fault. HasAnswer (A.has access.new) (Err fault)) }
+    ensures quiet { MakeNoBits (trees_of parts.now) → A.moved access.old < 2 ^ 64 → A.moved access.new ≡ A.moved access.old }
 {
     let mut values = Vec::new(caller.alloc);
     for part in parts {
@@ -107,6 +110,7 @@ fn literal_value<R: Share + Drop, A: Access<R>>(
     ensures keeps { Keeps A.shown A.has access.old access.new }
     ensures is { IsEvaluated (A.shown access.new) result (Gives (value term.now)) }
     ensures known { HasAnswer (A.has access.new) result }
+    ensures quiet { bits_inside (value term.now) ≡ 0 → A.moved access.old < 2 ^ 64 → A.moved access.new ≡ A.moved access.old }
 {
     match copy(caller.alloc, access, term.term()) {
         Ok(term) => Ok(term),
@@ -143,6 +147,7 @@ fn tabled<R: Share + Drop, A: Access<R>>(
     ensures keeps { Keeps A.shown A.has access.old access.new }
     ensures is { IsEvaluated (A.shown access.new) result (tabled_as (setting caller.now.names.now caller.now.pid) (form_of form.now) (meanings (A.shown access.old) (row values.items))) }
     ensures known { HasAnswer (A.has access.new) result }
+    ensures quiet { FormMakesNoBits (form_of form.now) → A.moved access.new ≡ A.moved access.old }
 {
     match form {
         Form::Table(what) => access.table(caller, what, values),

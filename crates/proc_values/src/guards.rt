@@ -10,10 +10,11 @@ ghost use Rattle.term_value.specs.Tree.{Bound};
 ghost use Rattle.code_tree.specs.Reading.{tree_of, trees_of, guard_of};
 ghost use Rattle.expr_eval.specs.Answers.{IsEvaluated, HasAnswer, setting};
 ghost use Rattle.proc_values.specs.Binds.{term_in, AreBound};
+ghost use Rattle.proc_values.specs.MadeBits.{MakesNoBits, MakeNoBits, GuardMakesNoBits};
 ghost use Rattle.proc_values.specs.Verdicts.{verdict};
 
 use crate::bindings::Bindings;
-use crate::evaluation::evaluated;
+use crate::evaluation::{TRUE, evaluated};
 use crate::storage::Storage;
 use bit_store::Store;
 use code_tree::Tree;
@@ -22,9 +23,6 @@ use expr_eval::{Answer, Caller, EvalFault};
 use shares::Share;
 use std::alloc::AllocError;
 use term_value::Term;
-
-/// The number of the atom `true` in each table of atoms.
-const TRUE: u32 = 11;
 
 /// Whether a guard holds (Erlang Reference Manual, "Expressions", Guard Sequences).
 #[derive(Clone, Copy, Debug, PartialEq, Eq)]
@@ -49,7 +47,10 @@ pub fn result_of<R: Share + Drop, S: Store<R>>(
     ensures is { (bs : List Bound) → Agrees (S.shown storage.old.store) (term_in bindings.now) bs
         → IsEvaluated (S.shown storage.new.store) result (result_is (setting caller.now.names.now caller.now.pid) (put_in bs (tree_of tree.now))) }
     ensures known { HasAnswer (S.has storage.new.store) result }
+    ensures quiet { MakesNoBits (tree_of tree.now) → storage.new.steps.moved ≡ storage.old.steps.moved }
 {
+    // read for its range alone
+    let _moved = storage.steps.moved;
     evaluated(caller, storage, tree, bindings)
 }
 
@@ -66,6 +67,7 @@ pub fn guard_holds<R: Share + Drop, S: Store<R>>(
     ensures keeps { Keeps S.shown S.has storage.old.store storage.new.store }
     ensures is { (bs : List Bound) → Agrees (S.shown storage.old.store) (term_in bindings.now) bs
         → IfOk result (λ found. verdict found ≡ holds (setting caller.now.names.now caller.now.pid) (in_guard bs (guard_of guard.now))) }
+    ensures quiet { GuardMakesNoBits (guard_of guard.now) → storage.new.steps.moved ≡ storage.old.steps.moved }
 {
     for tests in guard {
         match all_hold(caller, storage, tests.items(), bindings)? {
@@ -88,6 +90,7 @@ fn all_hold<R: Share + Drop, S: Store<R>>(
     ensures keeps { Keeps S.shown S.has storage.old.store storage.new.store }
     ensures is { (bs : List Bound) → Agrees (S.shown storage.old.store) (term_in bindings.now) bs
         → IfOk result (λ found. verdict found ≡ hold (setting caller.now.names.now caller.now.pid) (puts_in bs (trees_of tests.now))) }
+    ensures quiet { MakeNoBits (trees_of tests.now) → storage.new.steps.moved ≡ storage.old.steps.moved }
 {
     for test in tests {
         match verdict_of(result_of(caller, storage, test, bindings))? {

@@ -8,7 +8,7 @@ ghost use Rattle.bit_store.specs.Stores.{AnyAtom, Keeps, RoseBy, itself};
 ghost use Rattle.code_tree.specs.PlainTerms.{value};
 ghost use Rattle.term_value.specs.Seen.{meanings, AreKnown};
 ghost use Rattle.term_value.specs.Terms.{row, row_of, seen, value_of, IsOver};
-ghost use Rattle.proc_values.specs.Literals.{literal_bits, literals_bits};
+ghost use Rattle.proc_values.specs.MadeBits.{bits_inside, all_bits_inside};
 
 use crate::access::Access;
 use crate::storage::Storage;
@@ -30,7 +30,7 @@ pub fn literal<R: Share + Drop, S: Store<R>>(
     ensures keeps { Keeps S.shown S.has storage.old.store storage.new.store }
     ensures is { IfOk result (λ made. value_of (S.shown storage.new.store) made ≡ value term.now) }
     ensures known { IfOk result (IsOver (S.has storage.new.store) AnyAtom) }
-    ensures moved { RoseBy (literal_bits term.now) storage.old.steps.moved storage.new.steps.moved }
+    ensures moved { RoseBy (bits_inside (value term.now)) storage.old.steps.moved storage.new.steps.moved }
 {
     // read for its range alone
     let _moved = storage.steps.moved;
@@ -47,7 +47,7 @@ pub(crate) fn copy<R: Share + Drop, A: Access<R>>(
     ensures keeps { Keeps A.shown A.has access.old access.new }
     ensures is { IfOk result (λ made. value_of (A.shown access.new) made ≡ value (seen term.now)) }
     ensures known { IfOk result (IsOver (A.has access.new) AnyAtom) }
-    ensures moved { A.moved access.old < 2 ^ 64 → RoseBy (literal_bits (seen term.now)) (A.moved access.old) (A.moved access.new) }
+    ensures moved { A.moved access.old < 2 ^ 64 → RoseBy (bits_inside (value (seen term.now))) (A.moved access.old) (A.moved access.new) }
 {
     match term {
         Term::Int(number) => Ok(Term::Int(*number)),
@@ -75,7 +75,7 @@ fn copies<R: Share + Drop, A: Access<R>>(
     ensures keeps { Keeps A.shown A.has access.old access.new }
     ensures are { IfOk result (λ made. meanings (A.shown access.new) (row made.items) ≡ meanings itself (row items.now)) }
     ensures known { IfOk result (λ made. AreKnown (A.has access.new) AnyAtom (row made.items)) }
-    ensures moved { A.moved access.old < 2 ^ 64 → RoseBy (literals_bits (row items.now)) (A.moved access.old) (A.moved access.new) }
+    ensures moved { A.moved access.old < 2 ^ 64 → RoseBy (all_bits_inside (meanings itself (row items.now))) (A.moved access.old) (A.moved access.new) }
 {
     let mut made = Vec::new(alloc);
     let mut left = items;
@@ -96,7 +96,7 @@ fn list_copies<R: Share + Drop, A: Access<R>>(
     ensures keeps { Keeps A.shown A.has access.old access.new }
     ensures are { IfOk result (λ made. meanings (A.shown access.new) (row made.items) ≡ meanings itself (row_of items.now)) }
     ensures known { IfOk result (λ made. AreKnown (A.has access.new) AnyAtom (row made.items)) }
-    ensures moved { A.moved access.old < 2 ^ 64 → RoseBy (literals_bits (row_of items.now)) (A.moved access.old) (A.moved access.new) }
+    ensures moved { A.moved access.old < 2 ^ 64 → RoseBy (all_bits_inside (meanings itself (row_of items.now))) (A.moved access.old) (A.moved access.new) }
 {
     let mut made = Vec::new(alloc);
     let mut left = items;

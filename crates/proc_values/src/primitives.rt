@@ -1,6 +1,7 @@
 //! What the values of all parts alone determine.
 
-ghost use Rattle.std.specs.Prelude.{◌≡◌, IfOk, OnErr};
+ghost use Rattle.std.specs.Prelude.{◌≡◌, true, IfOk, OnErr};
+ghost use Rattle.erl_syntax.specs.BuiltIns.{is_for_guards};
 ghost use Rattle.bit_store.specs.Stores.{AnyAtom, Keeps, RoseBy};
 ghost use Rattle.term_value.specs.BuiltIns.{native};
 ghost use Rattle.term_value.specs.Primitives.{prim, bounded_result};
@@ -10,6 +11,7 @@ ghost use Rattle.term_value.specs.Terms.{row};
 ghost use Rattle.term_value.specs.Tree as t;
 ghost use Rattle.code_tree.specs.Reading.{prim_of};
 ghost use Rattle.expr_eval.specs.Answers.{IsEvaluated, HasAnswer, bit_count, setting};
+ghost use Rattle.proc_values.specs.MadeBits.{PrimMakesNoBits};
 
 use crate::construction::bitstring;
 use crate::lists::{list, list_on, tuple};
@@ -38,19 +40,43 @@ pub fn primitive<R: Share + Drop, S: Store<R>>(
     ensures known { HasAnswer (S.has storage.new.store) result }
     ensures moved { IfOk result (λ term. RoseBy (bit_count (S.shown storage.new.store) term) storage.old.steps.moved storage.new.steps.moved) }
     ensures unmoved { OnErr result (storage.new.steps ≡ storage.old.steps) }
+    ensures quiet { PrimMakesNoBits (prim_of primitive.now) → storage.new.steps ≡ storage.old.steps }
 {
     // read for its range alone: the ledger stands still
     let _moved = storage.steps.moved;
     match primitive {
         Primitive::Build(types) => bitstring(caller.alloc, storage, types.items(), &values),
-        Primitive::BuiltIn(which) => built_in(
+        Primitive::BuiltIn(which) => native_call(caller, storage, *which, &values),
+        _ => read(caller, &storage.store, primitive, values),
+    }
+}
+
+fn native_call<R: Share + Drop, S: Store<R>>(
+    caller: &Caller<'_>,
+    storage: &mut Storage<S>,
+    which: BuiltIn,
+    values: &[Term<R>],
+) -> Answer<R>
+    requires { AreKnown (S.has storage.old.store) AnyAtom (row values.now) }
+    ensures keeps { Keeps S.shown S.has storage.old.store storage.new.store }
+    ensures is { IsEvaluated (S.shown storage.new.store) result (bounded_result (native (setting caller.now.names.now caller.now.pid) which (meanings (S.shown storage.old.store) (row values.now)))) }
+    ensures known { HasAnswer (S.has storage.new.store) result }
+    ensures moved { IfOk result (λ term. RoseBy (bit_count (S.shown storage.new.store) term) storage.old.steps.moved storage.new.steps.moved) }
+    ensures unmoved { OnErr result (storage.new.steps ≡ storage.old.steps) }
+    ensures quiet { is_for_guards which ≡ true → storage.new.steps ≡ storage.old.steps }
+{
+    // read for its range alone: the ledger stands still
+    let _moved = storage.steps.moved;
+    if which.is_for_guards() {
+        guard_built_in(caller, &storage.store, which, values)
+    } else {
+        built_in(
             caller,
             &mut storage.store,
-            *which,
-            &values,
+            which,
+            values,
             &mut storage.steps,
-        ),
-        _ => read(caller, &storage.store, primitive, values),
+        )
     }
 }
 

@@ -14,6 +14,7 @@ use Rattle.proc_values.specs.Rows.{behind}
 use Rattle.proc_values.proofs.Evaluated.{all_given, all_is, and_is, or_is, fault_here, value_more}
 use Rattle.proc_values.proofs.Known.{keeps_then, all_still_known, same_meanings, still_agrees, still_there}
 use Rattle.proc_values.proofs.Prepended.{known_more}
+use Rattle.proc_values.proofs.Quiet.{all_quiet, part_quiet}
 use Rattle.proc_values.proofs.Tabled.{stopped_is}
 use Rattle.proc_values.proofs.evaluation.+evaluate.Goals as goal
 
@@ -29,6 +30,14 @@ evaluated-returns-in-Ok-clause-is g t c = λ bs a.
     let form = c.in-All.form in
     evaluated (g.A.Access.shown c.tabled.new.access) c.tabled.result (tabled s (form_of form) (meanings (g.A.Access.shown c.values_of.new.access) (row c.in-Ok.values.items))) (result_of s (put_in bs (tree_of c.args.tree.now)))
     (ap (of_all (tabled s (form_of form))) (c.in-Ok.ensures.values bs a) ∙ all_is s bs c.args.tree.now form c.in-All.parts c.items.result.now c.in-All.is c.items.ensures) c.tabled.ensures.is
+
+pub evaluated-returns-in-Ok-clause-quiet : goal.evaluated-returns-in-Ok-clause-quiet
+evaluated-returns-in-Ok-clause-quiet g t c = λ m small.
+    let quiet = all_quiet c.args.tree.now m c.in-All.form c.in-All.parts c.items.result.now c.in-All.is c.items.ensures in
+    c.tabled.ensures.quiet quiet.0 ∙ c.in-Ok.ensures.quiet quiet.1 small
+
+pub evaluated-returns-in-Err-clause-quiet : goal.evaluated-returns-in-Err-clause-quiet
+evaluated-returns-in-Err-clause-quiet g t c = λ m small. c.in-Err.ensures.quiet (all_quiet c.args.tree.now m c.in-All.form c.in-All.parts c.items.result.now c.in-All.is c.items.ensures).1 small
 
 pub evaluated-returns-in-Err-clause-is : goal.evaluated-returns-in-Err-clause-is
 evaluated-returns-in-Err-clause-is g t c = λ bs a.
@@ -67,6 +76,16 @@ values_of-returns-in-Err-clause-stops g t c = λ bs a.
     fault_here s bs c.args.parts.now c.loop-part.part-index c.part-item.result c.loop-part-test.true c.part-item.is (results_of s (puts_in bs (trees_of c.args.parts.now))) (shown c.evaluated.new.access) c.in-Err.fault
     (meanings (shown c.loop-part.access) (row c.loop-part.values.items)) (c.in-Err.ensures.is bs agrees) (c.loop-part.invariant.rest bs a)
 
+pub values_of-returns-in-Err-clause-quiet : goal.values_of-returns-in-Err-clause-quiet
+values_of-returns-in-Err-clause-quiet g t c = λ m small.
+    c.in-Err.ensures.quiet (part_quiet c.args.parts.now c.loop-part.part-index c.part-item.result c.loop-part-test.true c.part-item.is m) (omega (arith, small, c.loop-part.invariant.quiet m small))
+    ∙ c.loop-part.invariant.quiet m small
+
+pub values_of-returns-then-is_err-clause-quiet : goal.values_of-returns-then-is_err-clause-quiet
+values_of-returns-then-is_err-clause-quiet g t c = λ m small.
+    c.in-Ok.ensures.quiet (part_quiet c.args.parts.now c.loop-part.part-index c.part-item.result c.loop-part-test.true c.part-item.is m) (omega (arith, small, c.loop-part.invariant.quiet m small))
+    ∙ c.loop-part.invariant.quiet m small
+
 pub values_of-loop-part-preserved : goal.values_of-loop-part-preserved
 values_of-loop-part-preserved g t c =
     let s = setting c.args.caller.now.names.now c.args.caller.now.pid in
@@ -83,6 +102,9 @@ values_of-loop-part-preserved g t c =
     record {
       keeps = keeps_then shown has start old new c.loop-part.invariant.keeps keeps;
       there = still_there shown has old new keeps held c.loop-part.invariant.there;
+      quiet = λ m small.
+          c.in-Ok.ensures.quiet (part_quiet c.args.parts.now c.loop-part.part-index c.part-item.result c.loop-part-test.true c.part-item.is m) (omega (arith, small, c.loop-part.invariant.quiet m small))
+          ∙ c.loop-part.invariant.quiet m small;
       known = subst (λ (ts : List (Term g.row.R.Denot)). AreKnown (has new) AnyAtom (row ts)) (sym pushed)
           (known_more (has new) values value (all_still_known shown has AnyAtom old new keeps (row values) c.loop-part.invariant.known) c.in-Ok.ensures.known);
       rest = λ bs a.

@@ -4,7 +4,8 @@ use Rattle.bit_store.specs.Stores.{AnyAtom, itself}
 use Rattle.term_value.specs.Seen.{weights_of, meanings, AreKnown}
 use Rattle.term_value.specs.Terms.{seen, row, row_of}
 use Rattle.term_value.specs.declared.term.Term.{Term}
-use Rattle.proc_values.specs.Literals.{literal_bits, literals_bits}
+use Rattle.code_tree.specs.PlainTerms.{value}
+use Rattle.proc_values.specs.MadeBits.{bits_inside, all_bits_inside}
 use Rattle.proc_values.proofs.Copies.{joined, copy_more, all_copied}
 use Rattle.proc_values.proofs.Known.{keeps_then, all_still_known, same_meanings}
 use Rattle.proc_values.proofs.Ledgers.{rose_item, rose_small, rose_then}
@@ -15,16 +16,16 @@ pub copies-returns-in_err-copy-clause-moved : goal.copies-returns-in_err-copy-cl
 copies-returns-in_err-copy-clause-moved g t c = λ small.
     let moved = g.A.Access.moved in
     let inv = c.loop-item.invariant.moved small in
-    rose_item inv.0 (literal_bits (seen c.in-Some.item.now)) (literals_bits (row c.in-Some.rest.now)) (literals_bits (row c.loop-item.left.now)) (literals_bits (row c.args.items.now))
-    (moved c.args.access.now) (moved c.loop-item.access) (moved c.copy.new.access) inv.1 inv.2 (ap (λ ts. literals_bits (row ts)) c.in-Some.ensures.cases.0)
+    rose_item inv.0 (bits_inside (value (seen c.in-Some.item.now))) (all_bits_inside (meanings itself (row c.in-Some.rest.now))) (all_bits_inside (meanings itself (row c.loop-item.left.now))) (all_bits_inside (meanings itself (row c.args.items.now)))
+    (moved c.args.access.now) (moved c.loop-item.access) (moved c.copy.new.access) inv.1 inv.2 (ap (λ ts. all_bits_inside (meanings itself (row ts))) c.in-Some.ensures.cases.0)
     (c.copy.ensures.moved (rose_small inv.0 (moved c.args.access.now) (moved c.loop-item.access) inv.1))
 
 pub copies-returns-in_err-push-clause-moved : goal.copies-returns-in_err-push-clause-moved
 copies-returns-in_err-push-clause-moved g t c = λ small.
     let moved = g.A.Access.moved in
     let inv = c.loop-item.invariant.moved small in
-    rose_item inv.0 (literal_bits (seen c.in-Some.item.now)) (literals_bits (row c.in-Some.rest.now)) (literals_bits (row c.loop-item.left.now)) (literals_bits (row c.args.items.now))
-    (moved c.args.access.now) (moved c.loop-item.access) (moved c.copy.new.access) inv.1 inv.2 (ap (λ ts. literals_bits (row ts)) c.in-Some.ensures.cases.0)
+    rose_item inv.0 (bits_inside (value (seen c.in-Some.item.now))) (all_bits_inside (meanings itself (row c.in-Some.rest.now))) (all_bits_inside (meanings itself (row c.loop-item.left.now))) (all_bits_inside (meanings itself (row c.args.items.now)))
+    (moved c.args.access.now) (moved c.loop-item.access) (moved c.copy.new.access) inv.1 inv.2 (ap (λ ts. all_bits_inside (meanings itself (row ts))) c.in-Some.ensures.cases.0)
     (c.copy.ensures.moved (rose_small inv.0 (moved c.args.access.now) (moved c.loop-item.access) inv.1))
 
 pub copies-loop-item-preserved : goal.copies-loop-item-preserved
@@ -48,7 +49,7 @@ copies-loop-item-preserved g t c =
           (same_meanings shown has AnyAtom old new c.copy.ensures.keeps (row made) c.loop-item.invariant.known) c.in_ok-copy.ensures.is e c.loop-item.invariant.are;
       moved = λ small.
           let inv = c.loop-item.invariant.moved small in
-          (inv.0 + literal_bits (seen c.in-Some.item.now), rose_then inv.0 (literal_bits (seen c.in-Some.item.now)) (moved c.args.access.now) (moved old) (moved new) inv.1 (c.copy.ensures.moved (rose_small inv.0 (moved c.args.access.now) (moved old) inv.1)), omega (arith, inv.2, ap literals_bits e));
+          (inv.0 + bits_inside (value (seen c.in-Some.item.now)), rose_then inv.0 (bits_inside (value (seen c.in-Some.item.now))) (moved c.args.access.now) (moved old) (moved new) inv.1 (c.copy.ensures.moved (rose_small inv.0 (moved c.args.access.now) (moved old) inv.1)), omega (arith, inv.2, ap (λ r. all_bits_inside (meanings itself r)) e));
     }
 
 pub copies-returns-clause-are : goal.copies-returns-clause-are
@@ -59,16 +60,16 @@ pub list_copies-returns-in_err-copy-clause-moved : goal.list_copies-returns-in_e
 list_copies-returns-in_err-copy-clause-moved g t c = λ small.
     let moved = g.A.Access.moved in
     let inv = c.loop-item.invariant.moved small in
-    rose_item inv.0 (literal_bits (seen c.in-Some.item.now)) (literals_bits (row_of c.in-Some.rest.now)) (literals_bits (row_of c.loop-item.left.now)) (literals_bits (row_of c.args.items.now))
-    (moved c.args.access.now) (moved c.loop-item.access) (moved c.copy.new.access) inv.1 inv.2 (ap literals_bits c.in-Some.ensures)
+    rose_item inv.0 (bits_inside (value (seen c.in-Some.item.now))) (all_bits_inside (meanings itself (row_of c.in-Some.rest.now))) (all_bits_inside (meanings itself (row_of c.loop-item.left.now))) (all_bits_inside (meanings itself (row_of c.args.items.now)))
+    (moved c.args.access.now) (moved c.loop-item.access) (moved c.copy.new.access) inv.1 inv.2 (ap (λ r. all_bits_inside (meanings itself r)) c.in-Some.ensures)
     (c.copy.ensures.moved (rose_small inv.0 (moved c.args.access.now) (moved c.loop-item.access) inv.1))
 
 pub list_copies-returns-in_err-push-clause-moved : goal.list_copies-returns-in_err-push-clause-moved
 list_copies-returns-in_err-push-clause-moved g t c = λ small.
     let moved = g.A.Access.moved in
     let inv = c.loop-item.invariant.moved small in
-    rose_item inv.0 (literal_bits (seen c.in-Some.item.now)) (literals_bits (row_of c.in-Some.rest.now)) (literals_bits (row_of c.loop-item.left.now)) (literals_bits (row_of c.args.items.now))
-    (moved c.args.access.now) (moved c.loop-item.access) (moved c.copy.new.access) inv.1 inv.2 (ap literals_bits c.in-Some.ensures)
+    rose_item inv.0 (bits_inside (value (seen c.in-Some.item.now))) (all_bits_inside (meanings itself (row_of c.in-Some.rest.now))) (all_bits_inside (meanings itself (row_of c.loop-item.left.now))) (all_bits_inside (meanings itself (row_of c.args.items.now)))
+    (moved c.args.access.now) (moved c.loop-item.access) (moved c.copy.new.access) inv.1 inv.2 (ap (λ r. all_bits_inside (meanings itself r)) c.in-Some.ensures)
     (c.copy.ensures.moved (rose_small inv.0 (moved c.args.access.now) (moved c.loop-item.access) inv.1))
 
 pub list_copies-loop-item-preserved : goal.list_copies-loop-item-preserved
@@ -92,7 +93,7 @@ list_copies-loop-item-preserved g t c =
           (same_meanings shown has AnyAtom old new c.copy.ensures.keeps (row made) c.loop-item.invariant.known) c.in_ok-copy.ensures.is e c.loop-item.invariant.are;
       moved = λ small.
           let inv = c.loop-item.invariant.moved small in
-          (inv.0 + literal_bits (seen c.in-Some.item.now), rose_then inv.0 (literal_bits (seen c.in-Some.item.now)) (moved c.args.access.now) (moved old) (moved new) inv.1 (c.copy.ensures.moved (rose_small inv.0 (moved c.args.access.now) (moved old) inv.1)), omega (arith, inv.2, ap literals_bits e));
+          (inv.0 + bits_inside (value (seen c.in-Some.item.now)), rose_then inv.0 (bits_inside (value (seen c.in-Some.item.now))) (moved c.args.access.now) (moved old) (moved new) inv.1 (c.copy.ensures.moved (rose_small inv.0 (moved c.args.access.now) (moved old) inv.1)), omega (arith, inv.2, ap (λ r. all_bits_inside (meanings itself r)) e));
     }
 
 pub list_copies-returns-clause-are : goal.list_copies-returns-clause-are

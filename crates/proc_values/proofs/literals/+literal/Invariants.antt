@@ -2,7 +2,7 @@ use Rattle.std.proofs.Common.{◌≡◌, ◌+◌, ◌*◌, ◌<◌, ◌≤◌, �
 use Rattle.bit_store.specs.Stores.{AnyAtom, Keeps, RoseBy, itself}
 use Rattle.term_value.specs.Seen.{weight_of, weights_of, meanings, AreKnown}
 use Rattle.term_value.specs.Terms.{seen, row_of, row}
-use Rattle.proc_values.specs.Literals.{literals_bits}
+use Rattle.proc_values.specs.MadeBits.{all_bits_inside}
 use Rattle.proc_values.proofs.Copies.{joined}
 use Rattle.proc_values.proofs.literals.+literal.Given as goal
 
@@ -21,7 +21,7 @@ invariant-copies-loop-item g l = record {
   keeps : Keeps g.A.Access.shown g.A.Access.has l.fn.access l.access;
   known : AreKnown (g.A.Access.has l.access) AnyAtom (row l.made.items);
   are : joined (meanings (g.A.Access.shown l.access) (row l.made.items)) (meanings itself (row l.left)) ≡ meanings itself (row l.items);
-  moved : g.A.Access.moved l.fn.access < 2 ^ 64 → ((most : ℕ) × RoseBy most (g.A.Access.moved l.fn.access) (g.A.Access.moved l.access) × (most + literals_bits (row l.left) ≡ literals_bits (row l.items)));
+  moved : g.A.Access.moved l.fn.access < 2 ^ 64 → ((most : ℕ) × RoseBy most (g.A.Access.moved l.fn.access) (g.A.Access.moved l.access) × (most + all_bits_inside (meanings itself (row l.left)) ≡ all_bits_inside (meanings itself (row l.items))));
 }
 
 abbrev pub decreases-copies-loop-item : goal.decreases-copies-loop-item
@@ -33,7 +33,7 @@ invariant-list_copies-loop-item g l = record {
   keeps : Keeps g.A.Access.shown g.A.Access.has l.fn.access l.access;
   known : AreKnown (g.A.Access.has l.access) AnyAtom (row l.made.items);
   are : joined (meanings (g.A.Access.shown l.access) (row l.made.items)) (meanings itself (row_of l.left)) ≡ meanings itself (row_of l.items);
-  moved : g.A.Access.moved l.fn.access < 2 ^ 64 → ((most : ℕ) × RoseBy most (g.A.Access.moved l.fn.access) (g.A.Access.moved l.access) × (most + literals_bits (row_of l.left) ≡ literals_bits (row_of l.items)));
+  moved : g.A.Access.moved l.fn.access < 2 ^ 64 → ((most : ℕ) × RoseBy most (g.A.Access.moved l.fn.access) (g.A.Access.moved l.access) × (most + all_bits_inside (meanings itself (row_of l.left)) ≡ all_bits_inside (meanings itself (row_of l.items))));
 }
 
 abbrev pub decreases-list_copies-loop-item : goal.decreases-list_copies-loop-item
